@@ -1,0 +1,5 @@
+mod CheckLaws
+mod LiteralLaws
+mod ManyLaws
+mod MarkLaws
+mod RuleLaws

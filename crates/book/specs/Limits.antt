@@ -1,0 +1,22 @@
+-- The limits of a book. Here they are named once for the meaning, as `Book`'s associated constants name them once for the code.
+use Prim.Native.Nat.{ℕ}
+
+-- V, the variables, at most.
+abbrev pub maxVariables : ℕ
+maxVariables = 32
+
+-- U, the choices, at most.
+abbrev pub maxChoices : ℕ
+maxChoices = 20
+
+-- R, the rules, at most.
+abbrev pub maxRules : ℕ
+maxRules = 128
+
+-- A cost, at most. The least is 1.
+abbrev pub maxCost : ℕ
+maxCost = 999
+
+-- The literals of one rule, at most.
+abbrev pub maxLiterals : ℕ
+maxLiterals = 8

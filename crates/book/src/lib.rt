@@ -1,0 +1,34 @@
+// The order book: its type with its limits, and the readers of its records.
+pub mod costs;
+pub mod header;
+pub mod mark;
+pub mod rules;
+
+// A book as it is kept: the counts V, U and R, the rules as two parallel arrays of masks, the given facts as two masks.
+// Bit v - 1 of a mask stands for variable v: in `yes` where the rule has the literal v, in `no` where it has -v.
+pub struct Book {
+    pub variables: usize,
+    pub choices: usize,
+    pub rules: usize,
+    pub yes: [u64; Book::MAX_RULES],
+    pub no: [u64; Book::MAX_RULES],
+    pub facts_yes: u64,
+    pub facts_no: u64,
+}
+
+impl Book {
+    pub const MAX_VARIABLES: usize = 32;
+
+    pub const MAX_CHOICES: usize = 20;
+
+    pub const MAX_RULES: usize = 128;
+
+    pub const MAX_COST: u16 = 999;
+    pub const MAX_LITERALS: usize = 8;
+}
+
+// Several records in a row: the place after them, or the first refusal.
+pub enum Passed {
+    To(usize),
+    Refused { number: u8, place: usize },
+}

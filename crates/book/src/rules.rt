@@ -1,0 +1,123 @@
+// RL: the rules, each kept as two masks.
+ghost use mathlib.Core.Path.{_≡_};
+ghost use mathlib.Core.List.{map};
+ghost use Prim.Native.Nat.{_+_, _<_, _≤_};
+ghost use lib.ListN.{length};
+ghost use Rattle.literals.specs.Literal.{ofByte};
+ghost use Rattle.book.specs.Format.{ruleAt, ruleValues, many};
+ghost use Rattle.book.specs.Answer.{literalsAnswer, ruleAnswer, rulesAnswer};
+use crate::Book;
+use crate::Passed;
+use crate::mark;
+use crate::mark::Check;
+use literals::LiteralSet;
+
+pub enum LiteralsRead {
+    Says(LiteralSet),
+    Fails,
+}
+
+pub enum RuleRead {
+    Says { set: LiteralSet, len: usize },
+    Fails(u8),
+}
+
+// The rules as two parallel arrays of masks, with the place after them or the first refusal.
+pub struct Rules {
+    pub passed: Passed,
+    pub yes: [u64; Book::MAX_RULES],
+    pub no: [u64; Book::MAX_RULES],
+}
+
+// The literals that the bytes of a part are, over variables up to `n` that rise strictly.
+pub fn read_literals(s: &[u8], n: usize) -> LiteralsRead
+    requires { ⌜ n ≤ 64 ⌝ }
+    ensures { λ r. ⌜ r ≡ literalsAnswer n (map ofByte (now (s .entry))) ⌝ }
+{
+    let mut set = LiteralSet { yes: 0, no: 0 };
+    let mut last: usize = 0;
+    let mut i = 0;
+    while i < s.len() {
+        let l = literals::of_byte(s[i]);
+        let v = literals::variable(l) as usize;
+        if v <= last {
+            return LiteralsRead::Fails;
+        }
+        if n < v {
+            return LiteralsRead::Fails;
+        }
+        set = set.with(l);
+        last = v;
+        i += 1;
+    }
+    LiteralsRead::Says(set)
+}
+
+// The RL record at the beginning of a part, in a book of `n` variables.
+pub fn read_rule(s: &[u8], n: usize) -> RuleRead
+    requires { ⌜ n ≤ 64 ⌝ }
+    ensures { λ r. ⌜ r ≡ ruleAnswer (ruleAt n (now (s .entry))) ⌝ }
+{
+    match mark::opened(s, mark::RL, 3) {
+        Check::Fails(number) => RuleRead::Fails(number),
+        Check::Passes => counted(s, n),
+    }
+}
+
+// The RL record whose count is there.
+fn counted(s: &[u8], n: usize) -> RuleRead
+    requires { ⌜ n ≤ 64 ⌝ }
+    requires { ⌜ 3 ≤ length (now s) ⌝ }
+    ensures { λ r. ⌜ r ≡ ruleAnswer (ruleValues n (now (s .entry))) ⌝ }
+{
+    let count = s[2] as usize;
+    if count < 1 {
+        return RuleRead::Fails(5);
+    }
+    if count > Book::MAX_LITERALS {
+        return RuleRead::Fails(5);
+    }
+    let len = 3 + count;
+    if s.len() < len {
+        return RuleRead::Fails(1);
+    }
+    match read_literals(&s[3..len], n) {
+        LiteralsRead::Fails => RuleRead::Fails(6),
+        LiteralsRead::Says(set) => RuleRead::Says { set, len },
+    }
+}
+
+// The RL records, from a place on.
+pub fn read_rules(s: &[u8], n: usize, rules: usize, from: usize) -> Rules
+    requires { ⌜ n ≤ 64 ⌝ }
+    requires { ⌜ rules ≤ 128 ⌝ }
+    requires { ⌜ from ≤ length (now s) ⌝ }
+    ensures { λ r. ⌜ r ≡ rulesAnswer (many (λ i. ruleAt n) (now (s .entry)) rules 1 from) ⌝ }
+{
+    let mut yes = [0u64; Book::MAX_RULES];
+    let mut no = [0u64; Book::MAX_RULES];
+    let mut place = from;
+    let mut i = 0;
+    while i < rules {
+        match read_rule(&s[place..], n) {
+            RuleRead::Fails(number) => {
+                return Rules {
+                    passed: Passed::Refused { number, place },
+                    yes: [0u64; Book::MAX_RULES],
+                    no: [0u64; Book::MAX_RULES],
+                };
+            }
+            RuleRead::Says { set, len } => {
+                yes[i] = set.yes;
+                no[i] = set.no;
+                place += len;
+                i += 1;
+            }
+        }
+    }
+    Rules {
+        passed: Passed::To(place),
+        yes,
+        no,
+    }
+}

@@ -1,0 +1,2 @@
+mod Grow
+mod Signed

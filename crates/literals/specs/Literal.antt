@@ -1,0 +1,17 @@
+use mathlib.Core.Bool.{Bool, true, false, cond}
+use Prim.Native.Nat.{ℕ, suc, _-_}
+use lib.Dec.{ltb}
+use lib.IntN.{ℤ, pos, negsuc}
+
+-- A literal is a signed number: v says "variable v is yes", -v says "variable v is no".
+abbrev pub Literal : Type 0
+Literal = ℤ
+
+-- The variable that a literal speaks of.
+unfoldable pub variable : Literal → ℕ
+variable (pos v) = v
+variable (negsuc n) = suc n
+
+-- The literal that a byte is, in two's complement.
+unfoldable pub ofByte : ℕ → Literal
+ofByte b = cond (ltb b 128) (pos b) (negsuc (255 - b))

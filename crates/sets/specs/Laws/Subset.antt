@@ -1,0 +1,98 @@
+-- Membership, inclusion and disjointness as tests and as facts about digits. Assumes nothing.
+use mathlib.Core.Path.{_≡_, ap}
+use mathlib.Core.Bool.{true, false}
+use Prim.Native.Nat.{ℕ, _≤_}
+use native.Mathlib.Omega.{arith}
+use borrow.Author.Tests.{eqb-true, eqb-false, eq-eqb, ne-eqb}
+use lib.Bits.{and-le-r}
+use Rattle.sets.specs.Sets.{bit, has, inter, diff, subset, disjoint, Within, Apart}
+use Rattle.sets.specs.Laws.Bits.{bit-le, bit-zero, bit-inter, bit-diff, ext}
+use Rattle.sets.specs.Laws.Least.{some-member}
+
+-- ---- membership
+
+pub has-true : (m v : ℕ) → has m v ≡ true → bit m v ≡ 1
+unfolding has
+has-true m v e = eqb-true (bit m v) 1 e
+
+pub has-false : (m v : ℕ) → has m v ≡ false → bit m v ≡ 0
+unfolding has
+has-false m v e = let n : bit m v ≡ 1 → ⊥ = eqb-false (bit m v) 1 e in omega (arith, bit-le m v)
+
+pub one-has : (m v : ℕ) → bit m v ≡ 1 → has m v ≡ true
+unfolding has
+one-has m v e = eq-eqb (bit m v) 1 e
+
+pub zero-has : (m v : ℕ) → bit m v ≡ 0 → has m v ≡ false
+unfolding has
+zero-has m v e = ne-eqb (bit m v) 1 (λ f. omega arith)
+
+-- ---- inclusion
+
+pub subset-within : (a b : ℕ) → subset a b ≡ true → Within a b
+unfolding subset
+subset-within a b e =
+    record { keeps = λ v. omega (arith, bit-diff a b v, ap (λ (x : ℕ). bit x v) (eqb-true (diff a b) 0 e), bit-zero v) }
+
+pub diff-within : (a b : ℕ) → Within a b → diff a b ≡ 0
+diff-within a b w = ext (diff a b) 0 (λ v. omega (arith, bit-diff a b v, bit-zero v, w .keeps v))
+
+pub within-subset : (a b : ℕ) → Within a b → subset a b ≡ true
+unfolding subset
+within-subset a b w = eq-eqb (diff a b) 0 (diff-within a b w)
+
+pub subset-false : (a b : ℕ) → subset a b ≡ false → (v : ℕ) × (bit a v ≡ 1) × (bit b v ≡ 0)
+unfolding subset
+subset-false a b e =
+    let n : diff a b ≡ 0 → ⊥ = eqb-false (diff a b) 0 e in
+    let s = some-member (diff a b) (omega arith) in (
+      s .0,
+      omega (arith, s .1, bit-diff a b (s .0), bit-le a (s .0)),
+      omega (arith, s .1, bit-diff a b (s .0), bit-le a (s .0)),
+    )
+
+pub within-refl : (a : ℕ) → Within a a
+within-refl a = record { keeps = λ v. omega arith }
+
+pub within-trans : (a b c : ℕ) → Within a b → Within b c → Within a c
+within-trans a b c p q = record { keeps = λ v. omega (arith, p .keeps v, q .keeps v) }
+
+pub within-antisymm : (a b : ℕ) → Within a b → Within b a → a ≡ b
+within-antisymm a b p q = ext a b (λ v. omega (arith, p .keeps v, q .keeps v))
+
+pub inter-within : (a b : ℕ) → Within a b → inter a b ≡ a
+inter-within a b w = ext (inter a b) a (λ v. omega (arith, bit-inter a b v, w .keeps v))
+
+-- a smaller set is a smaller number
+pub within-le : (a b : ℕ) → Within a b → a ≤ b
+within-le a b w = omega (arith, inter-within a b w, and-le-r a b)
+
+-- ---- disjointness
+
+pub disjoint-apart : (a b : ℕ) → disjoint a b ≡ true → Apart a b
+unfolding disjoint
+disjoint-apart a b e =
+    record {
+      avoids = λ v.
+          omega (arith, bit-inter a b v, ap (λ (x : ℕ). bit x v) (eqb-true (inter a b) 0 e), bit-zero v, bit-le a v, bit-le b v);
+    }
+
+pub inter-apart : (a b : ℕ) → Apart a b → inter a b ≡ 0
+inter-apart a b w = ext (inter a b) 0 (λ v. omega (arith, bit-inter a b v, bit-zero v, w .avoids v))
+
+pub apart-disjoint : (a b : ℕ) → Apart a b → disjoint a b ≡ true
+unfolding disjoint
+apart-disjoint a b w = eq-eqb (inter a b) 0 (inter-apart a b w)
+
+pub disjoint-false : (a b : ℕ) → disjoint a b ≡ false → (v : ℕ) × (bit a v ≡ 1) × (bit b v ≡ 1)
+unfolding disjoint
+disjoint-false a b e =
+    let n : inter a b ≡ 0 → ⊥ = eqb-false (inter a b) 0 e in
+    let s = some-member (inter a b) (omega arith) in (
+      s .0,
+      omega (arith, s .1, bit-inter a b (s .0), bit-le a (s .0), bit-le b (s .0)),
+      omega (arith, s .1, bit-inter a b (s .0), bit-le a (s .0), bit-le b (s .0)),
+    )
+
+pub apart-symm : (a b : ℕ) → Apart a b → Apart b a
+apart-symm a b p = record { avoids = λ v. omega (arith, p .avoids v) }
