@@ -53,6 +53,17 @@ whole mark size s {r} e f = go (opened mark size s) refl e
     go (says tt k) d h = opened-says mark size s d
     go (fails n) d h = let z : _≡_ {A = ℕ} 0 1 = cc in absurd (omega arith)
 
+-- and its checks say how many they are
+pub passes-says : (mark : List ℕ) (size : ℕ) (s : List ℕ) {r : Check} → r ≡ checkAnswer (opened mark size s) → r ≡ Passes → opened mark size s ≡ says tt size
+unfolding checkAnswer opened
+passes-says mark size s {r} e f = go (leb 2 (length s)) (marked mark s) (leb size (length s)) e
+  where
+    go : (a b d : Bool) → r ≡ checkAnswer (check a 1 (check b 2 (check d 1 (says tt size)))) → check a 1 (check b 2 (check d 1 (says (tt {0}) size))) ≡ says tt size
+    go true true true h = refl
+    go true true false h = let z : _≡_ {A = ℕ} 0 1 = cc in absurd (omega arith)
+    go true false d h = let z : _≡_ {A = ℕ} 0 1 = cc in absurd (omega arith)
+    go false b d h = let z : _≡_ {A = ℕ} 0 1 = cc in absurd (omega arith)
+
 -- a two-byte field that the code found to be no cost, or a cost
 pub field-no : (s : List ℕ) (i : ℕ) {n : ℕ} {r : Bool} → n ≡ pair s i → r ≡ isCost n → not r ≡ true → isCost (pair s i) ≡ false
 field-no s i {n} {r} e d t = let f : r ≡ false = not-true r t in cc

@@ -1,4 +1,5 @@
 mod CheckLaws
+mod FactLaws
 mod LiteralLaws
 mod ManyLaws
 mod MarkLaws

@@ -19,6 +19,10 @@ use Rattle.book.specs.declared.rules.LiteralsRead.the-variants as Litera
 use Rattle.book.specs.declared.rules.RuleRead.{RuleRead}
 use Rattle.book.specs.declared.rules.RuleRead.the-variants as RuleRead
 use Rattle.book.specs.declared.rules.Rules.{Rules}
+use Rattle.book.specs.declared.facts.FactRead.{FactRead}
+use Rattle.book.specs.declared.facts.FactRead.the-variants as FactRead
+use Rattle.book.specs.declared.facts.FactsRead.{FactsRead}
+use Rattle.book.specs.declared.facts.FactsRead.the-variants as FactsRead
 use Rattle.book.specs.declared.mark.Check.{Check}
 use Rattle.book.specs.declared.mark.Check.the-variants as Check
 
@@ -58,3 +62,11 @@ padded n ms = ms ++ replicate (n - length ms) 0
 unfoldable pub rulesAnswer : Read (List (List Literal)) → Rules
 rulesAnswer (value rs place) = record { passed = Passed.To place; yes = padded maxRules (map yesMask rs); no = padded maxRules (map noMask rs) }
 rulesAnswer (refused number place) = record { passed = Passed.Refused number place; yes = padded maxRules []; no = padded maxRules [] }
+
+unfoldable pub factAnswer : Record Literal → FactRead
+factAnswer (says l len) = FactRead.Says l
+factAnswer (fails number) = FactRead.Fails number
+
+unfoldable pub factsAnswer : Read (List Literal) → FactsRead
+factsAnswer (value ls place) = FactsRead.Says (masks ls) place
+factsAnswer (refused number place) = FactsRead.Refused number place

@@ -153,11 +153,17 @@ unfoldable pub ruleAt : ℕ → List ℕ → Record (List Literal)
 ruleAt n s = after (opened RL 3 s) (ruleValues n s)
 
 -- FA in a book of u choices, after a fact over the variable `last` (0 where there is none): one literal.
+unfoldable pub factValues : ℕ → ℕ → List ℕ → Record Literal
+factValues u last s =
+    check (rising u last (ofByte (byte s 2) ∷ [])) 6
+    (says (ofByte (byte s 2)) 3)
+
 unfoldable pub factAt : ℕ → ℕ → List ℕ → Record Literal
-factAt u last s =
-    after (opened FA 3 s)
-    (check (rising u last (ofByte (byte s 2) ∷ [])) 6
-    (says (ofByte (byte s 2)) 3))
+factAt u last s = after (opened FA 3 s) (factValues u last s)
+
+-- Whether a part begins with FA.
+unfoldable pub atFact : List ℕ → Bool
+atFact s = leb 2 (length s) && marked FA s
 
 -- EN: the mark alone.
 unfoldable pub endAt : List ℕ → Record (Unit {0})
@@ -175,7 +181,7 @@ module _ {A : Type 0} (recordAt : ℕ → List ℕ → Record A) (s : List ℕ) 
 unfoldable pub factsFrom : List ℕ → ℕ → ℕ → ℕ → ℕ → Read (List Literal)
 factsFrom s u zero last place = refused 1 place
 factsFrom s u (suc turns) last place =
-    cond (leb 2 (length (drop place s)) && marked FA (drop place s))
+    cond (atFact (drop place s))
     (begin place (factAt u last (drop place s)) (λ l next. onto l (factsFrom s u turns (variable l) next)))
     (begin place (endAt (drop place s)) (λ e next. value [] next))
 

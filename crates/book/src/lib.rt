@@ -1,5 +1,6 @@
 // The order book: its type with its limits, and the readers of its records.
 pub mod costs;
+pub mod facts;
 pub mod header;
 pub mod mark;
 pub mod rules;
