@@ -101,3 +101,6 @@ cost-size due s {a} {len} e =
       where
         size : says (record { ofYes = pair s 3; ofNo = pair s 5 }) 7 ≡ says a len → len ≡ 7
         size g = cc
+
+pub cost-within : (due : ℕ) (s : List ℕ) {a : Cost} {len : ℕ} → costAt due s ≡ says a len → len ≤ length s
+cost-within due s e = let z = cost-size due s e in omega arith

@@ -1,3 +1,4 @@
+mod BookLaws
 mod CheckLaws
 mod FactLaws
 mod LiteralLaws

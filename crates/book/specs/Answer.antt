@@ -6,8 +6,12 @@ use lib.ListN.{length, replicate}
 use Rattle.literals.specs.Literal.{Literal}
 use Rattle.literals.specs.Truth.{yesMask, noMask}
 use Rattle.literals.specs.declared.LiteralSet.{LiteralSet}
-use Rattle.book.specs.Limits.{maxRules}
-use Rattle.book.specs.Format.{Record, says, fails, Read, value, refused, Header, Cost, rising}
+use Rattle.book.specs.Limits.{maxRules, maxChoices}
+use Rattle.book.specs.Format.{Record, says, fails, Read, value, refused, Header, Cost, OrderBook, rising}
+use Rattle.book.specs.declared.Book.{Book}
+use Rattle.book.specs.declared.Reading.{Reading}
+use Rattle.book.specs.declared.Outcome.{Outcome}
+use Rattle.book.specs.declared.Outcome.the-variants as Outcome
 use Rattle.book.specs.declared.Passed.{Passed}
 use Rattle.book.specs.declared.Passed.the-variants as Passed
 use Rattle.book.specs.declared.costs.CostRead.{CostRead}
@@ -70,3 +74,38 @@ factAnswer (fails number) = FactRead.Fails number
 unfoldable pub factsAnswer : Read (List Literal) → FactsRead
 factsAnswer (value ls place) = FactsRead.Says (masks ls) place
 factsAnswer (refused number place) = FactsRead.Refused number place
+
+-- The counts of a header, as the code passes them on.
+abbrev pub headerOf : ℕ → ℕ → ℕ → Header
+headerOf v u r = record { variables = v; choices = u; rules = r }
+
+-- The book that says nothing.
+abbrev pub emptyBook : Book
+emptyBook =
+    record { variables = 0; choices = 0; rules = 0; yes = padded maxRules []; no = padded maxRules []; «facts_yes» = 0; «facts_no» = 0 }
+
+-- An order book as it is kept: its rules and its facts as masks.
+abbrev pub kept : OrderBook → Book
+kept b =
+    record {
+      variables = b .header .variables;
+      choices = b .header .choices;
+      rules = b .header .rules;
+      yes = padded maxRules (map yesMask (b .rules));
+      no = padded maxRules (map noMask (b .rules));
+      «facts_yes» = yesMask (b .facts);
+      «facts_no» = noMask (b .facts) }
+
+-- The answer of the reader: document 01's number and place for a refusal, with no sets and no counts; the book where it is accepted.
+unfoldable pub bookAnswer : Read OrderBook → Reading
+bookAnswer (value b end) = record { outcome = Outcome.Accepted; book = kept b }
+bookAnswer (refused number place) = record { outcome = Outcome.Refused number place; book = emptyBook }
+
+-- The costs as twenty rows of two: row by variable, column by sign, yes first. Rows of 0 after the last choice.
+unfoldable pub table : List Cost → List (List ℕ)
+table cs = map (λ c. c .ofYes ∷ c .ofNo ∷ []) cs ++ replicate (maxChoices - length cs) (0 ∷ 0 ∷ [])
+
+-- The table of a book; all rows are 0 where it is refused.
+unfoldable pub tableAnswer : {A : Type 0} → (A → List Cost) → Read A → List (List ℕ)
+tableAnswer costs (value a place) = table (costs a)
+tableAnswer costs (refused number place) = table []

@@ -187,7 +187,7 @@ factsFrom s u (suc turns) last place =
 
 -- A book ends with its last byte: a byte after EN is refused with 7, at that byte.
 abbrev pub ended : List ℕ → ℕ → OrderBook → Read OrderBook
-ended s place b = cond (eqb place (length s)) (value b place) (refused 7 place)
+ended s place b = cond (ltb place (length s)) (refused 7 place) (value b place)
 
 -- The book from its rules on, after the header and the costs.
 unfoldable pub fromRules : List ℕ → Header → List Cost → ℕ → Read OrderBook
