@@ -114,8 +114,8 @@ rules-refused (refused n p) e f = cc
 pub record RulesSaid (m : Read (List (List Literal))) (r : Rules) (place : ℕ) : Type 0 where
   pub rules : List (List Literal)
   pub said : m ≡ value rules place
-  pub yes-masks : r .yes ≡ padded maxRules (map yesMask rules)
-  pub no-masks : r .no ≡ padded maxRules (map noMask rules)
+  pub yes-masks : r .yes ≡ padded 0 maxRules (map yesMask rules)
+  pub no-masks : r .no ≡ padded 0 maxRules (map noMask rules)
 
 pub rules-say : (m : Read (List (List Literal))) {r : Rules} {place : ℕ} → r ≡ rulesAnswer m → r .passed ≡ Passed.To place → RulesSaid m r place
 unfolding rulesAnswer
@@ -147,13 +147,13 @@ costs-beside s h cs place = go (many (λ i. ruleAt (h .variables)) s (h .rules) 
   where
     go : (m : Read (List (List Literal)))
         → bookAnswer (andThen m (λ rules place. andThen (factsFrom s (h .choices) (suc (length s)) 0 place) (λ facts place. ended s place (record { header = h; costs = []; rules = rules; facts = facts }))))
-          ≡ bookAnswer (andThen m (λ rules place. andThen (factsFrom s (h .choices) (suc (length s)) 0 place) (λ facts place. ended s place (record { header = h; costs = cs; rules = rules; facts = facts }))))
+        ≡ bookAnswer (andThen m (λ rules place. andThen (factsFrom s (h .choices) (suc (length s)) 0 place) (λ facts place. ended s place (record { header = h; costs = cs; rules = rules; facts = facts }))))
     go (refused n p) = refl
     go (value rs p) = more (factsFrom s (h .choices) (suc (length s)) 0 p)
       where
         more : (f : Read (List Literal))
             → bookAnswer (andThen f (λ facts place. ended s place (record { header = h; costs = []; rules = rs; facts = facts })))
-              ≡ bookAnswer (andThen f (λ facts place. ended s place (record { header = h; costs = cs; rules = rs; facts = facts })))
+            ≡ bookAnswer (andThen f (λ facts place. ended s place (record { header = h; costs = cs; rules = rs; facts = facts })))
         more (refused n q) = refl
         more (value fs q) = end (ltb q (length s))
           where
@@ -164,8 +164,8 @@ costs-beside s h cs place = go (many (λ i. ruleAt (h .variables)) s (h .rules) 
 
 -- the book that is kept, from its parts
 pub accepted : (v u r end : ℕ) (rs : List (List Literal)) (fs : List Literal) {y n : List ℕ} {two : LiteralSet}
-    → y ≡ padded maxRules (map yesMask rs) → n ≡ padded maxRules (map noMask rs) → two ≡ masks fs
+    → y ≡ padded 0 maxRules (map yesMask rs) → n ≡ padded 0 maxRules (map noMask rs) → two ≡ masks fs
     → record { outcome = Outcome.Accepted; book = record { variables = v; choices = u; rules = r; yes = y; no = n; «facts_yes» = two .yes; «facts_no» = two .no } }
-      ≡ bookAnswer (value (record { header = headerOf v u r; costs = []; rules = rs; facts = fs }) end)
+    ≡ bookAnswer (value (record { header = headerOf v u r; costs = []; rules = rs; facts = fs }) end)
 unfolding bookAnswer
 accepted v u r end rs fs a b c = rw (a, b, c) refl

@@ -77,6 +77,7 @@ fact-whole u last s {l} {len} e =
   where
     literal : says (ofByte (byte s 2)) 3 ≡ says l len → ofByte (byte s 2) ≡ l
     literal g = cc
+
     three : says (ofByte (byte s 2)) 3 ≡ says l len → len ≡ 3
     three g = cc
 
@@ -128,7 +129,8 @@ module _ (s : List ℕ) (u from : ℕ) where
           enough = omega (arith, turn, g .enough);
           yes-set = w .yes-grown ∙ rw (g .yes-set) (sym (yesMask-snoc (g .done) l));
           no-set = w .no-grown ∙ rw (g .no-set) (sym (noMask-snoc (g .done) l));
-          within = omega (arith, g .within, simp length-drop at (z .within)) }
+          within = omega (arith, g .within, simp length-drop at (z .within));
+        }
       where
         one : (t : ℕ) → g .turns ≡ suc t → factsFrom s u (g .turns) last place ≡ onto l (factsFrom s u t (variable l) (place + m .len))
         one t e = rw (e, a, m .said) refl

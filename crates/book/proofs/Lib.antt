@@ -1,7 +1,10 @@
-mod BookLaws
-mod CheckLaws
-mod FactLaws
-mod LiteralLaws
-mod ManyLaws
-mod MarkLaws
-mod RuleLaws
+pub mod BookLaws
+pub mod CheckLaws
+pub mod FactLaws
+pub mod LiteralLaws
+pub mod ManyLaws
+pub mod MarkLaws
+pub mod PaddedLaws
+pub mod PartLaws
+pub mod RuleLaws
+pub mod TableLaws

@@ -49,10 +49,11 @@ module _ (n : ℕ) (s : List ℕ) where
   module _ {set : LiteralSet} {last i : ℕ} (g : Gathered set last i) (h : i < length s) where
     pub gathered-more : {set′ : LiteralSet} (l : Literal) → l ≡ ofByte (getD s i 0) → last < variable l → variable l ≤ n → Grown set l set′ → Gathered set′ (variable l) (i + 1)
     gathered-more l e low high w = record {
-        risen = g .risen ∙ next-one last i h ∙ rw (← e, lt-ltb _ _ low, le-leb _ _ high) refl;
-        yes-set = w .yes-grown ∙ rw (g .yes-set, e) (sym (rw (read-one i h) (yesMask-snoc _ _)));
-        no-set = w .no-grown ∙ rw (g .no-set, e) (sym (rw (read-one i h) (noMask-snoc _ _)));
-        upto = omega arith }
+      risen = g .risen ∙ next-one last i h ∙ rw (← e, lt-ltb _ _ low, le-leb _ _ high) refl;
+      yes-set = w .yes-grown ∙ rw (g .yes-set, e) (sym (rw (read-one i h) (yesMask-snoc _ _)));
+      no-set = w .no-grown ∙ rw (g .no-set, e) (sym (rw (read-one i h) (noMask-snoc _ _)));
+      upto = omega arith;
+    }
 
     pub not-rising : variable (ofByte (getD s i 0)) ≤ last → LiteralsRead.Fails ≡ literalsAnswer n (map ofByte s)
     unfolding literalsAnswer

@@ -19,6 +19,7 @@ use Rattle.book.specs.declared.rules.RuleRead.{RuleRead}
 use Rattle.book.specs.declared.rules.RuleRead.the-variants as RuleRead
 use Rattle.book.proofs.CheckLaws.{after-says, check-says, opened-says}
 use Rattle.book.proofs.ManyLaws.{Walked, walked-none, walked-more}
+use Rattle.book.proofs.PaddedLaws.{filled}
 
 -- the answer of an RL record, taken back
 pub rule-fails : (m : Record (List Literal)) {r : RuleRead} {number : ℕ} → r ≡ ruleAnswer m → r ≡ RuleRead.Fails number → m ≡ fails number
@@ -45,6 +46,7 @@ rule-size n s {ls} {len} e =
   where
     lits : List Literal
     lits = map ofByte (take (byte s 2) (drop 3 s))
+
     go : (a b c d : Bool) → leb (3 + byte s 2) (length s) ≡ c
         → check a 5 (check b 5 (check c 1 (check d 6 (says lits (3 + byte s 2))))) ≡ says ls len → len ≤ length s
     go a b c d l h =
@@ -54,27 +56,13 @@ rule-size n s {ls} {len} e =
         ends : 3 + byte s 2 ≤ length s → says lits (3 + byte s 2) ≡ says ls len → len ≤ length s
         ends w g = let same : 3 + byte s 2 ≡ len = cc in omega arith
 
--- one more entry after those that are filled
-pub padded-snoc : (n : ℕ) (ms : List ℕ) (m : ℕ) → length ms < n → set (padded n ms) (length ms) m ≡ padded n (ms ++ (m ∷ []))
-unfolding padded
-padded-snoc n ms m h =
-    let left : n - length ms ≡ suc (n - length (ms ++ (m ∷ []))) = omega (arith, length-append ms (m ∷ [])) in
-    rw left (set-at ms 0 _ m (length ms) refl ∙ sym (append-snoc ms m _))
-
--- the masks of the rules read, and of one rule more
-pub filled : (n : ℕ) (f : List Literal → ℕ) (done : List (List Literal)) (rule : List Literal) (i m : ℕ) {array : List ℕ} → length done ≡ i → i < n → m ≡ f rule
-    → array ≡ padded n (map f done) → set array i m ≡ padded n (map f (done ++ (rule ∷ [])))
-filled n f done rule i m c l e a =
-    let k : length (map f done) ≡ i = length-map done f ∙ c in
-    rw (a, e, map-append f done (rule ∷ [])) (rw (← k) (padded-snoc n (map f done) (f rule) (omega arith)))
-
 module _ (n : ℕ) (s : List ℕ) (rules from : ℕ) where
   -- after i of the rules: those read, and their masks in the two arrays
   pub record Stored (yes′ no′ : List ℕ) (i place : ℕ) : Type 0 where
     pub done : List (List Literal)
     pub walked : Walked (λ k. ruleAt n) s rules from done i place
-    pub yes-stored : yes′ ≡ padded maxRules (map yesMask done)
-    pub no-stored : no′ ≡ padded maxRules (map noMask done)
+    pub yes-stored : yes′ ≡ padded 0 maxRules (map yesMask done)
+    pub no-stored : no′ ≡ padded 0 maxRules (map noMask done)
 
   pub stored-none : from ≤ length s → Stored (replicate maxRules 0) (replicate maxRules 0) 0 from
   unfolding padded
@@ -83,7 +71,8 @@ module _ (n : ℕ) (s : List ℕ) (rules from : ℕ) where
   pub stored-more : {yes′ no′ : List ℕ} {i place : ℕ} (two : LiteralSet) (len : ℕ) → Stored yes′ no′ i place → i < rules → rules ≤ maxRules → RuleSaid (ruleAt n (drop place s)) two len
       → Stored (set yes′ i (two .yes)) (set no′ i (two .no)) (i + 1) (place + len)
   stored-more {i = i} two len w l u r = record {
-      done = w .done ++ (r .rule ∷ []);
-      walked = walked-more _ _ _ _ (r .rule) len (w .walked) l (r .said) (rule-size n _ (r .said));
-      yes-stored = filled maxRules yesMask (w .done) (r .rule) i (two .yes) (w .walked .counted) (omega arith) (ap (λ t. t .yes) (r .as-masks)) (w .yes-stored);
-      no-stored = filled maxRules noMask (w .done) (r .rule) i (two .no) (w .walked .counted) (omega arith) (ap (λ t. t .no) (r .as-masks)) (w .no-stored) }
+    done = w .done ++ (r .rule ∷ []);
+    walked = walked-more _ _ _ _ (r .rule) len (w .walked) l (r .said) (rule-size n _ (r .said));
+    yes-stored = filled 0 maxRules yesMask (w .done) (r .rule) i (two .yes) (w .walked .counted) (omega arith) (ap (λ t. t .yes) (r .as-masks)) (w .yes-stored);
+    no-stored = filled 0 maxRules noMask (w .done) (r .rule) i (two .no) (w .walked .counted) (omega arith) (ap (λ t. t .no) (r .as-masks)) (w .no-stored);
+  }

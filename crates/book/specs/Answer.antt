@@ -58,14 +58,15 @@ unfoldable pub ruleAnswer : Record (List Literal) → RuleRead
 ruleAnswer (says ls len) = RuleRead.Says (masks ls) len
 ruleAnswer (fails number) = RuleRead.Fails number
 
--- A list, and zeros up to n entries.
-unfoldable pub padded : ℕ → List ℕ → List ℕ
-padded n ms = ms ++ replicate (n - length ms) 0
+module _ {A : Type 0} where
+  -- A list, and d after it up to n entries.
+  unfoldable pub padded : A → ℕ → List A → List A
+  padded d n xs = xs ++ replicate (n - length xs) d
 
 -- The rules' masks in two arrays, zeros after the last; no rule where a record is refused.
 unfoldable pub rulesAnswer : Read (List (List Literal)) → Rules
-rulesAnswer (value rs place) = record { passed = Passed.To place; yes = padded maxRules (map yesMask rs); no = padded maxRules (map noMask rs) }
-rulesAnswer (refused number place) = record { passed = Passed.Refused number place; yes = padded maxRules []; no = padded maxRules [] }
+rulesAnswer (value rs place) = record { passed = Passed.To place; yes = padded 0 maxRules (map yesMask rs); no = padded 0 maxRules (map noMask rs) }
+rulesAnswer (refused number place) = record { passed = Passed.Refused number place; yes = padded 0 maxRules []; no = padded 0 maxRules [] }
 
 unfoldable pub factAnswer : Record Literal → FactRead
 factAnswer (says l len) = FactRead.Says l
@@ -82,7 +83,7 @@ headerOf v u r = record { variables = v; choices = u; rules = r }
 -- The book that says nothing.
 abbrev pub emptyBook : Book
 emptyBook =
-    record { variables = 0; choices = 0; rules = 0; yes = padded maxRules []; no = padded maxRules []; «facts_yes» = 0; «facts_no» = 0 }
+    record { variables = 0; choices = 0; rules = 0; yes = padded 0 maxRules []; no = padded 0 maxRules []; «facts_yes» = 0; «facts_no» = 0 }
 
 -- An order book as it is kept: its rules and its facts as masks.
 abbrev pub kept : OrderBook → Book
@@ -91,19 +92,24 @@ kept b =
       variables = b .header .variables;
       choices = b .header .choices;
       rules = b .header .rules;
-      yes = padded maxRules (map yesMask (b .rules));
-      no = padded maxRules (map noMask (b .rules));
+      yes = padded 0 maxRules (map yesMask (b .rules));
+      no = padded 0 maxRules (map noMask (b .rules));
       «facts_yes» = yesMask (b .facts);
-      «facts_no» = noMask (b .facts) }
+      «facts_no» = noMask (b .facts);
+    }
 
 -- The answer of the reader: document 01's number and place for a refusal, with no sets and no counts; the book where it is accepted.
 unfoldable pub bookAnswer : Read OrderBook → Reading
 bookAnswer (value b end) = record { outcome = Outcome.Accepted; book = kept b }
 bookAnswer (refused number place) = record { outcome = Outcome.Refused number place; book = emptyBook }
 
--- The costs as twenty rows of two: row by variable, column by sign, yes first. Rows of 0 after the last choice.
+-- A choice's costs as a row: the yes first.
+abbrev pub row : Cost → List ℕ
+row c = c .ofYes ∷ c .ofNo ∷ []
+
+-- The costs as twenty rows of two: row by variable, column by sign. Rows of 0 after the last choice.
 unfoldable pub table : List Cost → List (List ℕ)
-table cs = map (λ c. c .ofYes ∷ c .ofNo ∷ []) cs ++ replicate (maxChoices - length cs) (0 ∷ 0 ∷ [])
+table cs = padded (0 ∷ 0 ∷ []) maxChoices (map row cs)
 
 -- The table of a book; all rows are 0 where it is refused.
 unfoldable pub tableAnswer : {A : Type 0} → (A → List Cost) → Read A → List (List ℕ)

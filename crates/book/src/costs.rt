@@ -3,7 +3,7 @@ ghost use mathlib.Core.Path.{_≡_};
 ghost use Prim.Native.Nat.{_+_, _<_, _≤_};
 ghost use lib.ListN.{length};
 ghost use Rattle.book.specs.Format.{pair, isCost, costAt, costValues, many};
-ghost use Rattle.book.specs.Answer.{costAnswer, passedAnswer};
+ghost use Rattle.book.specs.Answer.{costAnswer, passedAnswer, tableAnswer};
 use crate::Book;
 use crate::Passed;
 use crate::mark;
@@ -78,4 +78,26 @@ pub fn check_costs(s: &[u8], choices: usize, from: usize) -> Passed
         }
     }
     Passed::To(place)
+}
+
+// The costs of the choices as rows of two, row by variable, column by sign. All rows are 0 where a record is refused.
+pub fn cost_table(s: &[u8], choices: usize, from: usize) -> [[u16; 2]; Book::MAX_CHOICES]
+    requires { ⌜ choices ≤ 20 ⌝ }
+    requires { ⌜ from ≤ length (now s) ⌝ }
+    ensures { λ r. ⌜ r ≡ tableAnswer (λ cs. cs) (many costAt (now (s .entry)) choices 1 from) ⌝ }
+{
+    let mut table = [[0u16; 2]; Book::MAX_CHOICES];
+    let mut place = from;
+    let mut i = 0;
+    while i < choices {
+        match read_cost(&s[place..], i + 1) {
+            CostRead::Fails(_) => return [[0u16; 2]; Book::MAX_CHOICES],
+            CostRead::Says { of_yes, of_no } => {
+                table[i] = [of_yes, of_no];
+                place += 7;
+                i += 1;
+            }
+        }
+    }
+    table
 }

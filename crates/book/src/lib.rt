@@ -5,11 +5,13 @@ ghost use lib.ListN.{length};
 ghost use mathlib.Core.List.{[]};
 ghost use Rattle.book.specs.Format.{readBook, fromRules};
 ghost use Rattle.book.specs.Answer.{emptyBook, bookAnswer, tableAnswer, headerOf};
+
 pub mod costs;
 pub mod facts;
 pub mod header;
 pub mod mark;
 pub mod rules;
+
 use facts::FactsRead;
 use header::HeaderRead;
 
@@ -28,10 +30,15 @@ pub struct Book {
 // The limits of a book, and of the log that is written for it.
 impl Book {
     pub const MAX_VARIABLES: usize = 32;
+
     pub const MAX_CHOICES: usize = 20;
+
     pub const MAX_RULES: usize = 128;
+
     pub const MAX_COST: u16 = 999;
+
     pub const MAX_LITERALS: usize = 8;
+
     pub const MAX_LOG: usize = 547;
 
     // The book that says nothing, which stands beside a refusal.
@@ -130,5 +137,24 @@ fn read_from_rules(s: &[u8], variables: usize, choices: usize, rules: usize, fro
                 }
             }
         },
+    }
+}
+
+// The costs of a book, twenty rows of two: beside the book's struct, which cannot hold an array of arrays.
+// Ruled out: a table with yes and no swapped; one that keeps the costs of a book that is refused.
+pub fn read_costs(s: &[u8]) -> [[u16; 2]; Book::MAX_CHOICES]
+    ensures { λ r. ⌜ r ≡ tableAnswer (λ b. b .costs) (readBook (now (s .entry))) ⌝ }
+{
+    let reading = read(s);
+    let outcome = reading.outcome;
+    match outcome {
+        Outcome::Refused {
+            number: _,
+            place: _,
+        } => [[0u16; 2]; Book::MAX_CHOICES],
+        Outcome::Accepted => {
+            let choices = reading.book.choices;
+            costs::cost_table(s, choices, 5)
+        }
     }
 }

@@ -60,9 +60,16 @@ enum-known-place c = search needs
 -- src/lib.rt:94:34
 read-from-rules-requires : tie.Need-read-from-rules-requires
 read-from-rules-requires c κs =
-    let h = header (c .before .before .before .before) in
-    (omega (arith, h .few-variables), (omega (arith, h .few-choices), (h .few-rules,
-    many-within _ _ (λ i t a len e. cost-within i t e) _ _ _ (h .within) (passed-to _ (c .before .before .before .check-costs .ensures) (c .before .place .given .1) .1))))
+    let h = header (c .before .before .before .before) in (
+      omega (arith, h .few-variables),
+      (
+        omega (arith, h .few-choices),
+        (
+          h .few-rules,
+          many-within _ _ (λ i t a len e. cost-within i t e) _ _ _ (h .within) (passed-to _ (c .before .before .before .check-costs .ensures) (c .before .place .given .1) .1),
+        ),
+      ),
+    )
 
 -- src/lib.rt:83:1
 returns : tie.Need-returns

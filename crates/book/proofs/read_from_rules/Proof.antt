@@ -55,8 +55,11 @@ refuse-requires-3 c κs = search needs
 returns : tie.Need-returns
 unfolding fromRules bookAnswer
 returns c =
-    rw (rules-say _ (c .before .before .before .before .before .before .before .before .before .read-rules .ensures) (c .before .before .before .before .before .before .before .passed2 .given .1) .said, facts-say _ (c .before .before .before .before .before .read-facts .ensures) (c .before .before .before .set .given .1) .said,
-      lt-ltb _ _ (c .before .if1 .taken)) (c .refuse3 .ensures)
+    rw (
+      rules-say _ (c .before .before .before .before .before .before .before .before .before .read-rules .ensures) (c .before .before .before .before .before .before .before .passed2 .given .1) .said,
+      facts-say _ (c .before .before .before .before .before .read-facts .ensures) (c .before .before .before .set .given .1) .said,
+      lt-ltb _ _ (c .before .if1 .taken),
+    ) (c .refuse3 .ensures)
 
 -- src/lib.rt:100:1
 returns-2 : tie.Need-returns-2

@@ -37,7 +37,7 @@ gone c = sym (rw part-from at (c .before .at-fact .ensures)) ∙ c .if1 .left
 -- the fact that was read, in the arm that goes on
 said : (c : tie.After-known-told2 Inv-loop μ-loop)
     → FactSaid (factAt (c .before .before .before .before .before .before .before .before .before .before .args .u) (c .before .before .before .before .before .before .before .before .loop .last)
-      (drop (c .before .before .before .before .before .before .before .before .loop .place) (now (c .before .before .before .before .before .before .before .before .before .before .args .s)))) (c .before .l .given .0 .0)
+    (drop (c .before .before .before .before .before .before .before .before .loop .place) (now (c .before .before .before .before .before .before .before .before .before .before .args .s)))) (c .before .l .given .0 .0)
 said c = fact-says _ (rw part-from at (c .before .before .before .read-fact .ensures)) (c .before .l .given .1)
 
 rose : (c : tie.After-known-told2 Inv-loop μ-loop)
