@@ -168,3 +168,19 @@ pub handed : (l : Literal) → variable l ≤ 64 → toZ w8 (ofZ w8 l) ≡ l
 unfolding variable
 handed (pos v) h = toZ-ofZ {w = w8} {z = pos v} (record { sfits = omega arith })
 handed (negsuc v) h = toZ-ofZ {w = w8} {z = negsuc v} (record { sfits = omega arith })
+
+-- more turns than there are bytes change nothing: the meaning does not depend on how many it is given
+pub facts-enough : (s : List ℕ) (u turns last place : ℕ) → place ≤ length s → length s < turns + place → factsFrom s u (suc turns) last place ≡ factsFrom s u turns last place
+unfolding factsFrom
+facts-enough s u zero last place h l = absurd (omega arith)
+facts-enough s u (suc turns) last place h l = go (atFact (drop place s)) (factAt u last (drop place s)) refl (λ v p a b. facts-enough s u turns v p a b)
+  where
+    go : (a : Bool) (r : Record Literal) → factAt u last (drop place s) ≡ r
+        → ((v p : ℕ) → p ≤ length s → length s < turns + p → factsFrom s u (suc turns) v p ≡ factsFrom s u turns v p)
+        → cond a (begin place r (λ l next. onto l (factsFrom s u (suc turns) (variable l) next))) (begin place (endAt (drop place s)) (λ e next. value [] next))
+          ≡ cond a (begin place r (λ l next. onto l (factsFrom s u turns (variable l) next))) (begin place (endAt (drop place s)) (λ e next. value [] next))
+    go false r d ih = refl
+    go true (fails n) d ih = refl
+    go true (says x len) d ih =
+        let z = fact-whole u last (drop place s) d in
+        ap (onto x) (ih (variable x) (place + len) (omega (arith, z .size, simp length-drop at (z .within))) (omega (arith, z .size)))

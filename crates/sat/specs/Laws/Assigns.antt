@@ -1,0 +1,125 @@
+-- A partial filling with one more variable set: what it keeps, and which models it has. Assumes nothing.
+use mathlib.Core.Path.{_≡_}
+use mathlib.Core.Logic.{by-cases}
+use mathlib.Core.Bool.{Bool, true, false}
+use mathlib.Core.List.{List}
+use Prim.Native.Nat.{ℕ, suc, _+_, _≤_, _<_}
+use native.Mathlib.Decide.{ℕ-discrete}
+use native.Mathlib.Omega.{arith}
+use lib.Count.{ones-le}
+use Rattle.sets.specs.Sets.{bit, union, insert, count, Within, Apart}
+use Rattle.sets.specs.Laws.Bits.{bit-le, bit-insert-same, bit-insert-other, union-lt, insert-lt}
+use Rattle.sets.specs.Laws.Subset.{apart-symm}
+use Rattle.sets.specs.Laws.Count.{ones-union, ones-insert}
+use Rattle.sat.specs.Meaning.{Model}
+use Rattle.sat.specs.Contracts.{Posed, digit, Sets, Assigned, unset}
+
+-- ---- `assign`
+
+pub assigned-yes : {on off v a b : ℕ} {value : Bool} → value ≡ true → a ≡ insert on v → b ≡ off → Assigned on off v value a b
+assigned-yes p q r = rw p (record { said = (q, r) })
+
+pub assigned-no : {on off v a b : ℕ} {value : Bool} → value ≡ false → a ≡ on → b ≡ insert off v → Assigned on off v value a b
+assigned-no p q r = rw p (record { said = (q, r) })
+
+-- ---- one more element
+
+-- a set and one more element is within f, if the set is and f has the element
+within-insert : (m v f : ℕ) → Within m f → bit f v ≡ 1 → Within (insert m v) f
+within-insert m v f w e =
+    record {
+      keeps = λ u.
+          by-cases (ℕ-discrete u v) (λ s. rw s (omega (arith, bit-le (insert m v) v))) (λ s. omega (arith, bit-insert-other m v u s, w .keeps u));
+    }
+
+insert-within : (m v f : ℕ) → Within (insert m v) f → Within m f
+insert-within m v f w =
+    record {
+      keeps = λ u.
+          by-cases (ℕ-discrete u v) (λ s. rw s (omega (arith, bit-le m v, bit-insert-same m v, w .keeps v)))
+          (λ s. omega (arith, bit-insert-other m v u s, w .keeps u));
+    }
+
+apart-insert : (m v f : ℕ) → Apart m f → bit f v ≡ 0 → Apart (insert m v) f
+apart-insert m v f a e =
+    record {
+      avoids = λ u.
+          by-cases (ℕ-discrete u v) (λ s. rw s (omega (arith, bit-le (insert m v) v))) (λ s. omega (arith, bit-insert-other m v u s, a .avoids u));
+    }
+
+insert-apart : (m v f : ℕ) → Apart (insert m v) f → Apart m f
+insert-apart m v f a =
+    record {
+      avoids = λ u.
+          by-cases (ℕ-discrete u v) (λ s. rw s (omega (arith, bit-le m v, bit-insert-same m v, a .avoids v)))
+          (λ s. omega (arith, bit-insert-other m v u s, a .avoids u));
+    }
+
+-- ---- the models of the partial filling with v set are the models of the old one that give v the value
+
+module _ (n : ℕ) (ys ns : List ℕ) (on off v f : ℕ) where
+  model-sets : (value : Bool) (a b : ℕ) → Sets on off v value a b → Model n ys ns on off f → bit f v ≡ digit value → Model n ys ns a b f
+  model-sets true a b s m e =
+      rw (s .0, s .1) (record { below = m .below; keeps = within-insert on v f (m .keeps) e; avoids = m .avoids; obeyed = m .obeyed })
+  model-sets false a b s m e =
+      rw (s .0, s .1) (record { below = m .below; keeps = m .keeps; avoids = apart-insert off v f (m .avoids) e; obeyed = m .obeyed })
+
+  sets-model : (value : Bool) (a b : ℕ) → Sets on off v value a b → Model n ys ns a b f → Model n ys ns on off f × (bit f v ≡ digit value)
+  sets-model true a b s m =
+      let w : Within (insert on v) f = rw (s .0) at (m .keeps) in (
+        record { below = m .below; keeps = insert-within on v f w; avoids = rw (s .1) at (m .avoids); obeyed = m .obeyed },
+        omega (arith, w .keeps v, bit-insert-same on v, bit-le f v),
+      )
+  sets-model false a b s m =
+      let w : Apart (insert off v) f = rw (s .1) at (m .avoids) in (
+        record { below = m .below; keeps = rw (s .0) at (m .keeps); avoids = insert-apart off v f w; obeyed = m .obeyed },
+        omega (arith, w .avoids v, bit-insert-same off v),
+      )
+
+pub model-assigned : {n : ℕ} {ys ns : List ℕ} {on off v a b f : ℕ} {value : Bool} → Assigned on off v value a b → Model n ys ns on off f
+    → bit f v ≡ digit value → Model n ys ns a b f
+model-assigned {n} {ys} {ns} {on} {off} {v} {a} {b} {f} {value} s m e = model-sets n ys ns on off v f value a b (s .said) m e
+
+pub assigned-model : {n : ℕ} {ys ns : List ℕ} {on off v a b f : ℕ} {value : Bool} → Assigned on off v value a b → Model n ys ns a b f
+    → Model n ys ns on off f × (bit f v ≡ digit value)
+assigned-model {n} {ys} {ns} {on} {off} {v} {a} {b} {f} {value} s m = sets-model n ys ns on off v f value a b (s .said) m
+
+-- ---- it is a partial filling with one variable less to set
+
+module _ (n : ℕ) (ys ns : List ℕ) (on off v : ℕ) (p : Posed n ys ns on off) (h : v < n) (x : bit on v ≡ 0) (z : bit off v ≡ 0) where
+  sets-posed : (value : Bool) (a b : ℕ) → Sets on off v value a b → Posed n ys ns a b
+  sets-posed true a b s =
+      rw (s .0, s .1) (record {
+        small = p .small;
+        paired = p .paired;
+        yes-masks = p .yes-masks;
+        no-masks = p .no-masks;
+        on-below = insert-lt n on v (p .on-below) h;
+        off-below = p .off-below;
+        apart = apart-insert on v off (p .apart) z;
+      })
+  sets-posed false a b s =
+      rw (s .0, s .1) (record {
+        small = p .small;
+        paired = p .paired;
+        yes-masks = p .yes-masks;
+        no-masks = p .no-masks;
+        on-below = p .on-below;
+        off-below = insert-lt n off v (p .off-below) h;
+        apart = apart-symm _ _ (apart-insert off v on (apart-symm on off (p .apart)) x);
+      })
+
+  sets-count : (value : Bool) (a b : ℕ) → Sets on off v value a b → count a + count b ≡ suc (count on + count off)
+  sets-count true a b s = rw (s .0, s .1) (omega (arith, ones-insert on v x))
+  sets-count false a b s = rw (s .0, s .1) (omega (arith, ones-insert off v z))
+
+count-le : (n : ℕ) (ys ns : List ℕ) (on off : ℕ) → Posed n ys ns on off → count on + count off ≤ n
+count-le n ys ns on off p = omega (arith, ones-union on off (p .apart), ones-le n (union on off) (union-lt n on off (p .on-below) (p .off-below)))
+
+module _ {n : ℕ} {ys ns : List ℕ} {on off v a b : ℕ} {value : Bool} where
+  pub posed-assigned : Posed n ys ns on off → v < n → bit on v ≡ 0 → bit off v ≡ 0 → Assigned on off v value a b → Posed n ys ns a b
+  posed-assigned p h x z s = sets-posed n ys ns on off v p h x z value a b (s .said)
+
+  pub unset-less : Posed n ys ns on off → v < n → bit on v ≡ 0 → bit off v ≡ 0 → Assigned on off v value a b → suc (unset n a b) ≡ unset n on off
+  unset-less p h x z s =
+      omega (arith, count-le n ys ns a b (posed-assigned p h x z s), sets-count n ys ns on off v p h x z value a b (s .said))
