@@ -72,13 +72,13 @@ Of n [] = Unit {0}
 Of n (l ∷ ls) = (variable l ≤ n) × Of n ls
 
 yesBit-lt : (n : ℕ) (l : Literal) → variable l ≤ n → yesBit l < 2 ^ n
-unfolding yesBit
+unfolding yesBit variable
 yesBit-lt n (pos zero) h = pow-pos n
 yesBit-lt n (pos (suc v)) h = single-lt n v h
 yesBit-lt n (negsuc v) h = pow-pos n
 
 noBit-lt : (n : ℕ) (l : Literal) → variable l ≤ n → noBit l < 2 ^ n
-unfolding noBit
+unfolding noBit variable
 noBit-lt n (pos v) h = pow-pos n
 noBit-lt n (negsuc v) h = single-lt n v h
 

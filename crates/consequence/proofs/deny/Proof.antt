@@ -1,0 +1,72 @@
+use mathlib.Core.Path.{_≡_, refl}
+use mathlib.Core.List.{[], _∷_, _++_}
+use Prim.Native.Nat.{_+_}
+use lib.ListN.{length, take, length-append}
+use denote.Ref.{now}
+use Rattle.consequence.proofs.DenyLaws.{posed-more, denied}
+use borrow.Author.Needs.{needs}
+use Rattle.consequence.proofs.deny.Statement.{statement}
+use Rattle.consequence.proofs.deny.Tie as tie
+use Rattle.consequence.proofs.deny.Reads as reads
+use Rattle.consequence.proofs.deny.Lts as lts
+use Rattle.consequence.proofs.extended.Reads as extended-reads
+use Rattle.sat.proofs.search.Reads as search-reads
+
+-- the two lists of rules with one more, as the search is handed them
+yes-more : (c : tie.After-extended2)
+    → take (length (now (c .before .before .before .before .args .yes)) + 1) (c .before .extended .result) ≡ now (c .before .before .before .before .args .yes) ++ (c .before .before .before .before .args .kept .no ∷ [])
+yes-more c = c .before .extended .ensures
+
+no-more : (c : tie.After-extended2)
+    → take (length (now (c .before .before .before .before .args .yes)) + 1) (c .extended2 .result) ≡ now (c .before .before .before .before .args .no) ++ (c .before .before .before .before .args .kept .yes ∷ [])
+no-more c = rw (c .before .before .before .before .pre .0 .paired) (c .extended2 .ensures)
+
+-- src/lib.rt:45:20
+extended-requires : tie.Need-extended-requires
+extended-requires c κs = search needs
+
+-- src/lib.rt:46:19
+extended-requires-2 : tie.Need-extended-requires-2
+extended-requires-2 c κs = search needs
+
+-- src/lib.rt:47:17
+add-rules : tie.Need-add-rules
+add-rules c = search needs
+
+-- src/lib.rt:48:20
+array-share-prefix-more-yes : tie.Need-array-share-prefix-more-yes
+array-share-prefix-more-yes c = search needs
+
+-- src/lib.rt:48:20
+slice-aggregate-search : tie.Need-slice-aggregate-search
+slice-aggregate-search c = rw (yes-more (c .before), length-append) refl
+
+-- src/lib.rt:48:40
+array-share-prefix-more-no : tie.Need-array-share-prefix-more-no
+array-share-prefix-more-no c = search needs
+
+-- src/lib.rt:48:40
+slice-aggregate-search-2 : tie.Need-slice-aggregate-search-2
+slice-aggregate-search-2 c = rw (no-more (c .before .before), length-append, c .before .before .before .before .before .before .pre .0 .paired) refl
+
+-- src/lib.rt:48:5
+search-requires : tie.Need-search-requires
+search-requires c κs = rw (yes-more (c .before .before), no-more (c .before .before)) (posed-more _ _ (c .before .before .before .before .before .before .pre .0) (c .before .before .before .before .before .before .pre .1 .1 .1) (c .before .before .before .before .before .before .pre .1 .1 .0))
+
+-- src/lib.rt:38:1
+returns : tie.Need-returns
+returns c = denied _ _ _ _ _ _ _ _ (rw (yes-more (c .before .before .before), no-more (c .before .before .before)) at (c .search .ensures))
+
+pub deny-spec : {M : Type 1} → statement M
+deny-spec =
+    tie.close
+    (tie.spec
+    extended-requires
+    extended-requires-2
+    add-rules
+    array-share-prefix-more-yes
+    slice-aggregate-search
+    array-share-prefix-more-no
+    slice-aggregate-search-2
+    search-requires
+    returns)
