@@ -51,27 +51,30 @@ pub record HeaderWhole (s : List ℕ) (h : Header) (len : ℕ) : Type 0 where
   pub within : 5 ≤ length s
   pub few-variables : h .variables ≤ maxVariables
   pub few-choices : h .choices ≤ maxChoices
+  pub choices-among : h .choices ≤ h .variables
   pub few-rules : h .rules ≤ maxRules
 
 pub header-whole : (s : List ℕ) {h : Header} {len : ℕ} → headerAt s ≡ says h len → HeaderWhole s h len
 unfolding headerAt headerValues
 header-whole s {h} {len} e =
     let o = after-says (opened HD 5 s) (headerValues s) e in
-    go (leb (byte s 2) maxVariables) (leb (byte s 3) maxChoices) (leb (byte s 3) (byte s 2)) (leb (byte s 4) maxRules) refl refl refl (opened-says HD 5 s (o .1)) (o .2)
+    go (leb (byte s 2) maxVariables) (leb (byte s 3) maxChoices) (leb (byte s 3) (byte s 2)) (leb (byte s 4) maxRules) refl refl refl refl (opened-says HD 5 s (o .1)) (o .2)
   where
-    go : (a b c d : Bool) → leb (byte s 2) maxVariables ≡ a → leb (byte s 3) maxChoices ≡ b → leb (byte s 4) maxRules ≡ d → 5 ≤ length s
+    go : (a b c d : Bool) → leb (byte s 2) maxVariables ≡ a → leb (byte s 3) maxChoices ≡ b → leb (byte s 3) (byte s 2) ≡ c → leb (byte s 4) maxRules ≡ d → 5 ≤ length s
         → check a 3 (check b 3 (check c 3 (check d 3 (says (headerOf (byte s 2) (byte s 3) (byte s 4)) 5)))) ≡ says h len → HeaderWhole s h len
-    go a b c d p q r w g =
+    go a b c d p q k r w g =
         let x = check-says a 3 _ g in
         let y = check-says b 3 _ (x .1) in
-        let z = check-says d 3 _ (check-says c 3 _ (y .1) .1) in
-        ends (leb-true _ _ (p ∙ x .0)) (leb-true _ _ (q ∙ y .0)) (leb-true _ _ (r ∙ z .0)) (z .1)
+        let t = check-says c 3 _ (y .1) in
+        let z = check-says d 3 _ (t .1) in
+        ends (leb-true _ _ (p ∙ x .0)) (leb-true _ _ (q ∙ y .0)) (leb-true _ _ (k ∙ t .0)) (leb-true _ _ (r ∙ z .0)) (z .1)
       where
-        ends : byte s 2 ≤ maxVariables → byte s 3 ≤ maxChoices → byte s 4 ≤ maxRules → says (headerOf (byte s 2) (byte s 3) (byte s 4)) 5 ≡ says h len → HeaderWhole s h len
-        ends i j k f =
+        ends : byte s 2 ≤ maxVariables → byte s 3 ≤ maxChoices → byte s 3 ≤ byte s 2 → byte s 4 ≤ maxRules → says (headerOf (byte s 2) (byte s 3) (byte s 4)) 5 ≡ says h len
+            → HeaderWhole s h len
+        ends i j u m f =
             let same : headerOf (byte s 2) (byte s 3) (byte s 4) ≡ h = cc in
             let five : len ≡ 5 = cc in
-            record { size = five; within = w; few-variables = rw (← same) i; few-choices = rw (← same) j; few-rules = rw (← same) k }
+            record { size = five; within = w; few-variables = rw (← same) i; few-choices = rw (← same) j; choices-among = rw (← same) u; few-rules = rw (← same) m }
 
 -- ---- records in a row
 

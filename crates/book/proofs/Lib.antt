@@ -8,3 +8,4 @@ pub mod PaddedLaws
 pub mod PartLaws
 pub mod RuleLaws
 pub mod TableLaws
+pub mod WellFormed

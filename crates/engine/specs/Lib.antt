@@ -1,0 +1,4 @@
+pub mod Meaning
+pub mod Problem
+pub mod Answer
+pub mod Contracts
