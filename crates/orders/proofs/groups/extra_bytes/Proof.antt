@@ -1,0 +1,17 @@
+-- The loop counts `b` up to 256.
+use borrow.Author.Needs.{needs}
+use Prim.Native.Nat.{_-_}
+use Rattle.orders.proofs.groups.extra_bytes.Statement.{statement}
+use Rattle.orders.proofs.groups.extra_bytes.Tie as tie
+
+abbrev Inv-loop : tie.InvT-loop
+Inv-loop d after₀ b₀ after b = Unit {0}
+
+abbrev μ-loop : tie.MeasureT-loop
+μ-loop d after₀ b₀ after b = 256 - b
+
+pub extra-bytes-spec : {M : Type 1} → statement M
+extra-bytes-spec =
+    tie.close (tie.spec Inv-loop μ-loop
+    (λ c. search needs) (λ c κs. search needs) (λ c κs. search needs) (λ c. search needs) (λ c. search needs)
+    (λ c. search needs) (λ c. search needs))

@@ -1,0 +1,162 @@
+// The reader's answer held against the reckoning, or against a number and a place.
+use crate::build::Draft;
+use crate::reckon;
+use crate::reckon::Reckoned;
+use book::Book;
+use book::Outcome;
+
+// Of a group: how many books were tried, at how many reader and reckoning differed, at how many the reader was not as
+// expected. Of all groups: how many books were reckoned good (entry 0) or refused with each number.
+pub struct Tally {
+    pub tried: u64,
+    pub differ: u64,
+    pub unexpected: u64,
+    pub numbers: [u64; 8],
+}
+
+pub fn none() -> Tally {
+    Tally {
+        tried: 0,
+        differ: 0,
+        unexpected: 0,
+        numbers: [0; 8],
+    }
+}
+
+// The tally at the beginning of the next group.
+pub fn next_group(mut t: Tally) -> Tally {
+    t.tried = 0;
+    t.differ = 0;
+    t.unexpected = 0;
+    t
+}
+
+// Whether the reader's answer has this number and this place; number 0 stands for a book that is accepted.
+fn says(outcome: Outcome, number: u8, place: usize) -> bool {
+    match outcome {
+        Outcome::Accepted => number == 0,
+        Outcome::Refused {
+            number: found,
+            place: at,
+        } => {
+            if found == 0 {
+                return false;
+            }
+            if found == number { at == place } else { false }
+        }
+    }
+}
+
+// The first bytes, as many as are asked for.
+fn part(s: &[u8], len: usize) -> &[u8] {
+    if len <= s.len() { &s[0..len] } else { s }
+}
+
+fn same_masks(a: [u64; 128], b: [u64; 128]) -> bool {
+    let mut same = true;
+    for i in 0..128 {
+        if a[i] != b[i] {
+            same = false;
+        }
+    }
+    same
+}
+
+fn same_costs(table: [[u16; 2]; 20], row: [u16; 40]) -> bool {
+    let mut same = true;
+    for i in 0..20 {
+        if table[i][0] != row[2 * i] {
+            same = false;
+        }
+        if table[i][1] != row[2 * i + 1] {
+            same = false;
+        }
+    }
+    same
+}
+
+fn same_counts(book: Book, due: Reckoned) -> bool {
+    if book.variables != due.variables {
+        return false;
+    }
+    if book.choices != due.choices {
+        return false;
+    }
+    book.rules == due.rules
+}
+
+fn same_facts(book: Book, due: Reckoned) -> bool {
+    if book.facts_yes != due.facts_yes {
+        return false;
+    }
+    book.facts_no == due.facts_no
+}
+
+fn same_book(book: Book, due: Reckoned) -> bool {
+    if !same_counts(book, due) {
+        return false;
+    }
+    let yes = book.yes;
+    let due_yes = due.yes;
+    if !same_masks(yes, due_yes) {
+        return false;
+    }
+    let no = book.no;
+    let due_no = due.no;
+    if !same_masks(no, due_no) {
+        return false;
+    }
+    same_facts(book, due)
+}
+
+// Whether the reader gives what is reckoned, the book beside a refusal and the costs included.
+fn agrees(s: &[u8], due: Reckoned) -> bool {
+    let reading = book::read(s);
+    let outcome = reading.outcome;
+    if !says(outcome, due.number, due.place) {
+        return false;
+    }
+    let book = reading.book;
+    if !same_book(book, due) {
+        return false;
+    }
+    let costs = due.costs;
+    same_costs(book::read_costs(s), costs)
+}
+
+// Whether the reader gives this number and place.
+fn answers(s: &[u8], number: u8, place: usize) -> bool {
+    let reading = book::read(s);
+    let outcome = reading.outcome;
+    says(outcome, number, place)
+}
+
+// One more book that was reckoned, good or refused with a number.
+fn noted(mut t: Tally, number: u8) -> Tally {
+    let i = (number % 8) as usize;
+    let before = t.numbers[i];
+    t.numbers[i] = std::num::wrapping_add_u64(before, 1);
+    t.tried = std::num::wrapping_add_u64(t.tried, 1);
+    t
+}
+
+// One more book, held against the reckoning.
+pub fn count(t: Tally, d: Draft) -> Tally {
+    let bytes = d.bytes;
+    let s = part(&bytes, d.len);
+    let due = reckon::reckon(s);
+    let mut after = noted(t, due.number);
+    if !agrees(s, due) {
+        after.differ = std::num::wrapping_add_u64(after.differ, 1);
+    }
+    after
+}
+
+// One more book, held against the reckoning and against a number and a place.
+pub fn expect(mut t: Tally, d: Draft, number: u8, place: usize) -> Tally {
+    let bytes = d.bytes;
+    if !answers(part(&bytes, d.len), number, place) {
+        t.unexpected = std::num::wrapping_add_u64(t.unexpected, 1);
+    }
+    count(t, d)
+}

@@ -1,0 +1,79 @@
+// Holds the book reader against an independent reckoning of the format, over books that are built here as bytes, and
+// against the numbers and places of document 01. One line for a group: how many books, and at how many the two differ.
+mod boundaries;
+mod build;
+mod compare;
+mod edits;
+mod groups;
+mod random;
+mod reckon;
+
+use compare::Tally;
+
+fn line(name: &[u8], tried: u64, differ: u64) {
+    io::write_all(1, name);
+    io::write_all(1, b": ");
+    io::print_decimal(1, tried);
+    io::write_all(1, b" tried, ");
+    io::print_decimal(1, differ);
+    io::write_all(1, b" differ\n");
+}
+
+fn entry(n: u64) {
+    io::write_all(1, b" ");
+    io::print_decimal(1, n);
+}
+
+fn entries(t: Tally) {
+    for i in 1..8 {
+        entry(t.numbers[i]);
+    }
+}
+
+// How many books were good and how many were refused with each number, so that a reader sees what was tried.
+fn answers(t: Tally) {
+    io::write_all(1, b"reckoned: ");
+    io::print_decimal(1, t.numbers[0]);
+    io::write_all(1, b" good, refused with 1 to 7:");
+    entries(t);
+    io::write_all(1, b"\n");
+}
+
+// Groups of good books with one place changed.
+fn near_good_books(t: Tally) -> Tally {
+    let p = build::book_p();
+    let middle = build::made_book(123456789, 12, 8, 12);
+    let longest = build::longest();
+    let t = groups::truncations(groups::truncations(t, p), middle);
+    line(b"truncations", t.tried, t.differ);
+    let t = groups::changes(compare::next_group(t), p, 0, p.len);
+    let t = groups::changes(t, middle, 0, middle.len);
+    let t = groups::changes(t, longest, 0, 5);
+    let t = groups::changes(t, longest, 1542, 1559);
+    line(b"changes", t.tried, t.differ);
+    let t = groups::shifts(compare::next_group(t), p);
+    line(b"a byte more or less", t.tried, t.differ);
+    let t = groups::extra_bytes(compare::next_group(t), p);
+    let t = groups::extra_bytes(t, middle);
+    line(b"extra bytes", t.tried, t.differ);
+    t
+}
+
+// Groups of books made up, of few variables and of up to 32.
+fn made_up_books(t: Tally) -> Tally {
+    let t = groups::made_up(groups::made_up(t, 4000, 10), 1000, 32);
+    line(b"made up", t.tried, t.differ);
+    line(b"made up, expected", t.tried, t.unexpected);
+    let t = groups::edited(compare::next_group(t), 16000, 10);
+    let t = groups::edited(t, 4000, 32);
+    line(b"random", t.tried, t.differ);
+    t
+}
+
+fn main() {
+    let t = boundaries::all(compare::none());
+    line(b"boundaries", t.tried, t.differ);
+    line(b"expected", t.tried, t.unexpected);
+    let t = near_good_books(compare::next_group(t));
+    answers(made_up_books(compare::next_group(t)));
+}
