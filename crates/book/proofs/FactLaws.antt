@@ -178,7 +178,7 @@ facts-enough s u (suc turns) last place h l = go (atFact (drop place s)) (factAt
     go : (a : Bool) (r : Record Literal) → factAt u last (drop place s) ≡ r
         → ((v p : ℕ) → p ≤ length s → length s < turns + p → factsFrom s u (suc turns) v p ≡ factsFrom s u turns v p)
         → cond a (begin place r (λ l next. onto l (factsFrom s u (suc turns) (variable l) next))) (begin place (endAt (drop place s)) (λ e next. value [] next))
-          ≡ cond a (begin place r (λ l next. onto l (factsFrom s u turns (variable l) next))) (begin place (endAt (drop place s)) (λ e next. value [] next))
+        ≡ cond a (begin place r (λ l next. onto l (factsFrom s u turns (variable l) next))) (begin place (endAt (drop place s)) (λ e next. value [] next))
     go false r d ih = refl
     go true (fails n) d ih = refl
     go true (says x len) d ih =

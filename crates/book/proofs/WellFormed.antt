@@ -97,6 +97,7 @@ rule-good n s ls len e =
   where
     lits : List Literal
     lits = map ofByte (take (byte s 2) (drop 3 s))
+
     go : (a b c d : Bool) → rising n 0 lits ≡ d → check a 5 (check b 5 (check c 1 (check d 6 (says lits (3 + byte s 2))))) ≡ says ls len → Rises n ls
     go a b c d l h =
         let last = check-says d 6 _ (check-says c 1 _ (check-says b 5 _ (check-says a 5 _ h .1) .1) .1) in
@@ -166,4 +167,5 @@ well-formed s {b} e =
       costs-good = cs .each;
       rule-count = rs .counted;
       rules-rise = rs .each;
-      facts-rise = record { rises = facts-good s (b .header .choices) _ 0 (p .facts-from) (b .facts) (p .facts-end) (p .facts-read) } }
+      facts-rise = record { rises = facts-good s (b .header .choices) _ 0 (p .facts-from) (b .facts) (p .facts-end) (p .facts-read) };
+    }

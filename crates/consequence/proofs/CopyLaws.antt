@@ -23,7 +23,8 @@ module _ (masks : List ℕ) where
       record {
         copied = rw (add-one, take-suc-set all i (getD masks i 0) fits, take-suc masks i 0 h) (ap (λ l. l ++ (getD masks i 0 ∷ [])) (c .copied));
         room = length-set all i (getD masks i 0) ∙ c .room;
-        upto = omega arith }
+        upto = omega arith;
+      }
 
   pub copied-all : {all : List ℕ} {i : ℕ} (last : ℕ) → length masks ≤ 128 → Copied all i → length masks ≤ i → take (length masks + 1) (set all i last) ≡ masks ++ (last ∷ [])
   copied-all {all} {i} last few c h =

@@ -24,13 +24,14 @@ masks-snoc n ms m a h = record { below = λ i l. go i l (decLt i (length ms)) }
 
 pub posed-more : {n : ℕ} {ys ns : List ℕ} {on off : ℕ} (y m : ℕ) → Posed n ys ns on off → y < 2 ^ n → m < 2 ^ n → Posed n (ys ++ (y ∷ [])) (ns ++ (m ∷ [])) on off
 posed-more {n} {ys} {ns} y m p hy hm = record {
-    small = p .small;
-    paired = rw (length-append ys (y ∷ []), length-append ns (m ∷ []), p .paired) refl;
-    yes-masks = masks-snoc n ys y (p .yes-masks) hy;
-    no-masks = masks-snoc n ns m (p .no-masks) hm;
-    on-below = p .on-below;
-    off-below = p .off-below;
-    apart = p .apart }
+  small = p .small;
+  paired = rw (length-append ys (y ∷ []), length-append ns (m ∷ []), p .paired) refl;
+  yes-masks = masks-snoc n ys y (p .yes-masks) hy;
+  no-masks = masks-snoc n ns m (p .no-masks) hm;
+  on-below = p .on-below;
+  off-below = p .off-below;
+  apart = p .apart;
+}
 
 pub denied : (n : ℕ) (ys ns : List ℕ) (on off prefer : ℕ) (kept : LiteralSet) (r : Outcome) → Searched n (ys ++ (kept .no ∷ [])) (ns ++ (kept .yes ∷ [])) on off prefer r → Denied n ys ns on off kept r
 denied n ys ns on off prefer kept (Found m) s = record { said = s .found .model }

@@ -89,11 +89,12 @@ module _ {n : ℕ} {ys ns : List ℕ} {ch on off first : ℕ} (c : Choosing n ys
   pub kept-first : {y k : ℕ} → y ≡ inter first ch → k ≡ diff ch first → Kept n ys ns ch on off (record { yes = y; no = k })
   unfolding commonYes commonNo
   kept-first {y} {k} e d = record {
-      found = first ∷ [];
-      models = (c .model, tt);
-      yes-common = e;
-      no-common = d;
-      bounded = omega (arith, ap count e, ap count d, ap count (and-comm first ch), ones-diff-inter ch first) }
+    found = first ∷ [];
+    models = (c .model, tt);
+    yes-common = e;
+    no-common = d;
+    bounded = omega (arith, ap count e, ap count d, ap count (and-comm first ch), ones-diff-inter ch first);
+  }
 
   -- the masks that are kept are of n variables
   pub kept-yes-below : {kept : LiteralSet} → Kept n ys ns ch on off kept → kept .yes < 2 ^ n
@@ -108,12 +109,15 @@ module _ {n : ℕ} {ys ns : List ℕ} {ch on off first : ℕ} (c : Choosing n ys
     where
       yes-within : Within (inter m (kept .yes)) (kept .yes)
       yes-within = record { keeps = λ v. omega (arith, bit-inter m (kept .yes) v) }
+
       no-within : Within (diff (kept .no) m) (kept .no)
       no-within = record { keeps = λ v. omega (arith, bit-diff (kept .no) m v) }
+
       no-less : (v : ℕ) → bit (kept .no) v ≡ 1 → bit m v ≡ 1 → count (inter m (kept .yes)) + count (diff (kept .no) m) < count (kept .yes) + count (kept .no)
       no-less v p q =
           let d : (diff (kept .no) m ≡ kept .no → ⊥) = λ s. omega (arith, bit-diff (kept .no) m v, ap (λ x. bit x v) s) in
           omega (arith, ones-within _ _ yes-within, ones-proper _ _ no-within d)
+
       yes-less : (v : ℕ) → bit (kept .yes) v ≡ 1 → bit m v ≡ 0 → count (inter m (kept .yes)) + count (diff (kept .no) m) < count (kept .yes) + count (kept .no)
       yes-less v p q =
           let d : (inter m (kept .yes) ≡ kept .yes → ⊥) = λ s. omega (arith, bit-inter m (kept .yes) v, ap (λ x. bit x v) s) in
@@ -129,11 +133,12 @@ module _ {n : ℕ} {ys ns : List ℕ} {ch on off first : ℕ} (c : Choosing n ys
     pub kept-more : {y k : ℕ} → Kept n ys ns ch on off kept → y ≡ inter m (kept .yes) → k ≡ diff (kept .no) m → Kept n ys ns ch on off (record { yes = y; no = k })
     unfolding commonYes commonNo
     kept-more w e f = record {
-        found = m ∷ w .found;
-        models = (denies .0, w .models);
-        yes-common = e ∙ ap (inter m) (w .yes-common);
-        no-common = f ∙ ap (λ x. diff x m) (w .no-common);
-        bounded = omega (arith, w .bounded, kept-less e f) }
+      found = m ∷ w .found;
+      models = (denies .0, w .models);
+      yes-common = e ∙ ap (inter m) (w .yes-common);
+      no-common = f ∙ ap (λ x. diff x m) (w .no-common);
+      bounded = omega (arith, w .bounded, kept-less e f);
+    }
 
   -- where no model denies a kept literal, what is kept is exactly what is forced
   pub kept-all : {kept : LiteralSet} {r : Outcome} → Kept n ys ns ch on off kept → Denied n ys ns on off kept r → r ≡ Nothing → Narrowed n ys ns ch on off kept
@@ -141,25 +146,31 @@ module _ {n : ℕ} {ys ns : List ℕ} {ch on off first : ℕ} (c : Choosing n ys
     where
       none : NoModel n (ys ++ (kept .no ∷ [])) (ns ++ (kept .yes ∷ [])) on off
       none = (rw e at d) .said
+
       yes-each : (v : ℕ) → bit (kept .yes) v ≡ 1 → (f : ℕ) → Model n ys ns on off f → bit f v ≡ 1
       yes-each v b f m = by (ℕ-discrete (bit f v) 1)
         where
           by : Dec (bit f v ≡ 1) → bit f v ≡ 1
           by (yes q) = q
           by (no q) = absurd (none .none f (more-rules (c .posed) (kept .no) (kept .yes) f m (obeys-no f (kept .no) (kept .yes) v b (omega (arith, bit-le f v)))))
+
       no-each : (v : ℕ) → bit (kept .no) v ≡ 1 → (f : ℕ) → Model n ys ns on off f → bit f v ≡ 0
       no-each v b f m = by (ℕ-discrete (bit f v) 0)
         where
           by : Dec (bit f v ≡ 0) → bit f v ≡ 0
           by (yes q) = q
           by (no q) = absurd (none .none f (more-rules (c .posed) (kept .no) (kept .yes) f m (obeys-yes f (kept .no) (kept .yes) v b (omega (arith, bit-le f v)))))
+
       yes-exact : Exactly (problem n ys ns ch) on off 1 (kept .yes)
       yes-exact = record {
-          below = kept-yes-below w;
-          sound = λ v b. (omega (arith, ap (λ x. bit x v) (w .yes-common), common-yes-within ch v (w .found), bit-le ch v), yes-each v b);
-          complete = λ v h o a. ap (λ x. bit x v) (w .yes-common) ∙ common-yes-in (c .posed) ch v (w .found) (w .models) o a }
+        below = kept-yes-below w;
+        sound = λ v b. (omega (arith, ap (λ x. bit x v) (w .yes-common), common-yes-within ch v (w .found), bit-le ch v), yes-each v b);
+        complete = λ v h o a. ap (λ x. bit x v) (w .yes-common) ∙ common-yes-in (c .posed) ch v (w .found) (w .models) o a;
+      }
+
       no-exact : Exactly (problem n ys ns ch) on off 0 (kept .no)
       no-exact = record {
-          below = kept-no-below w;
-          sound = λ v b. (omega (arith, ap (λ x. bit x v) (w .no-common), common-no-within ch v (w .found), bit-le ch v), no-each v b);
-          complete = λ v h o a. ap (λ x. bit x v) (w .no-common) ∙ common-no-in (c .posed) ch v (w .found) (w .models) o a }
+        below = kept-no-below w;
+        sound = λ v b. (omega (arith, ap (λ x. bit x v) (w .no-common), common-no-within ch v (w .found), bit-le ch v), no-each v b);
+        complete = λ v h o a. ap (λ x. bit x v) (w .no-common) ∙ common-no-in (c .posed) ch v (w .found) (w .models) o a;
+      }

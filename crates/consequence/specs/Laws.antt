@@ -164,9 +164,10 @@ module _ (p : Problem) (on off : ℕ) where
   pub yes-exactly : Exactly p on off 1 (yesForced p on off)
   unfolding yesForced
   yes-exactly = record {
-      below = collect-lt _ _;
-      sound = λ v e. sound v (both-true _ _ (collect-true _ _ v e .1));
-      complete = λ v h c a. collect-in _ _ v h (rw (one-has (p .choices) v c) (yes-forces p on off v a)) }
+    below = collect-lt _ _;
+    sound = λ v e. sound v (both-true _ _ (collect-true _ _ v e .1));
+    complete = λ v h c a. collect-in _ _ v h (rw (one-has (p .choices) v c) (yes-forces p on off v a));
+  }
     where
       sound : (v : ℕ) → (has (p .choices) v ≡ true) × (forcesYes p on off v ≡ true) → (bit (p .choices) v ≡ 1) × ((f : ℕ) → ModelOf p on off f → bit f v ≡ 1)
       sound v w = (has-true _ _ (w .0), forces-yes p on off v (w .1))
@@ -174,9 +175,10 @@ module _ (p : Problem) (on off : ℕ) where
   pub no-exactly : Exactly p on off 0 (noForced p on off)
   unfolding noForced
   no-exactly = record {
-      below = collect-lt _ _;
-      sound = λ v e. sound v (both-true _ _ (collect-true _ _ v e .1));
-      complete = λ v h c a. collect-in _ _ v h (rw (one-has (p .choices) v c) (no-forces p on off v a)) }
+    below = collect-lt _ _;
+    sound = λ v e. sound v (both-true _ _ (collect-true _ _ v e .1));
+    complete = λ v h c a. collect-in _ _ v h (rw (one-has (p .choices) v c) (no-forces p on off v a));
+  }
     where
       sound : (v : ℕ) → (has (p .choices) v ≡ true) × (forcesNo p on off v ≡ true) → (bit (p .choices) v ≡ 1) × ((f : ℕ) → ModelOf p on off f → bit f v ≡ 0)
       sound v w = (has-true _ _ (w .0), forces-no p on off v (w .1))

@@ -48,9 +48,10 @@ module _ {b : OrderBook} (w : WellFormed b) where
 
   pub model-says : (end : ℕ) (r : ModelAnswer) → FoundModel (posed-from (kept b)) r → ModelSays (value b end) r
   model-says end (ModelAnswer.Model m) f =
-      let model : Model (b .header .variables) (map yesMask (b .rules)) (map noMask (b .rules)) (yesMask (b .facts)) (noMask (b .facts)) m = rw (yes-rules, no-rules) at (f .said) in
-      (λ h. record { filling = m; below = model .below; model = masked-models w m model; answered = refl },
-      λ h. absurd (true≢false (sym (masked-has w m model) ∙ h)))
+      let model : Model (b .header .variables) (map yesMask (b .rules)) (map noMask (b .rules)) (yesMask (b .facts)) (noMask (b .facts)) m = rw (yes-rules, no-rules) at (f .said) in (
+        λ h. record { filling = m; below = model .below; model = masked-models w m model; answered = refl },
+        λ h. absurd (true≢false (sym (masked-has w m model) ∙ h)),
+      )
   model-says end (ModelAnswer.Refused number place) f =
       let none : NoModel (b .header .variables) (map yesMask (b .rules)) (map noMask (b .rules)) (yesMask (b .facts)) (noMask (b .facts)) = rw (yes-rules, no-rules) at (f .said .2) in
       (λ h. absurd (true≢false (sym h ∙ none-has w none)), λ h. ap₂ ModelAnswer.Refused (f .said .0) (f .said .1))

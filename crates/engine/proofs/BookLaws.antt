@@ -76,9 +76,10 @@ unfolding yesMask noMask
 rising-low n last [] v e h = (bit-zero v, bit-zero v)
 rising-low n last (l ∷ ls) v e h =
     let r = first n last l ls e in
-    let ih = rising-low n (variable l) ls v (r .rest) (omega (arith, r .above)) in
-    (bit-union (yesBit l) (yesMask ls) v ∙ rw (low-yes l v (omega (arith, r .above)), ih .0) refl,
-    bit-union (noBit l) (noMask ls) v ∙ rw (low-no l v (omega (arith, r .above)), ih .1) refl)
+    let ih = rising-low n (variable l) ls v (r .rest) (omega (arith, r .above)) in (
+      bit-union (yesBit l) (yesMask ls) v ∙ rw (low-yes l v (omega (arith, r .above)), ih .0) refl,
+      bit-union (noBit l) (noMask ls) v ∙ rw (low-no l v (omega (arith, r .above)), ih .1) refl,
+    )
 
 -- one literal is not a yes and a no, and speaks of no other variable
 one-sign : (l : Literal) (v : ℕ) → bit (yesBit l) v + bit (noBit l) v ≤ 1
@@ -136,24 +137,26 @@ module _ {b : OrderBook} (w : WellFormed b) where
 
   posed : Posed (b .header .variables) (map yesMask (b .rules)) (map noMask (b .rules)) (yesMask (b .facts)) (noMask (b .facts))
   posed = record {
-      small = omega (arith, w .few-variables);
-      paired = length-map (b .rules) yesMask ∙ sym (length-map (b .rules) noMask);
-      yes-masks = each-below _ yesMask (yesMask-lt _) (b .rules) (w .rules-rise);
-      no-masks = each-below _ noMask (noMask-lt _) (b .rules) (w .rules-rise);
-      on-below = wider (yesMask-lt _ (b .facts) (rising-of _ 0 (b .facts) (w .facts-rise .rises)));
-      off-below = wider (noMask-lt _ (b .facts) (rising-of _ 0 (b .facts) (w .facts-rise .rises)));
-      apart = rising-apart _ 0 (b .facts) (w .facts-rise .rises) }
+    small = omega (arith, w .few-variables);
+    paired = length-map (b .rules) yesMask ∙ sym (length-map (b .rules) noMask);
+    yes-masks = each-below _ yesMask (yesMask-lt _) (b .rules) (w .rules-rise);
+    no-masks = each-below _ noMask (noMask-lt _) (b .rules) (w .rules-rise);
+    on-below = wider (yesMask-lt _ (b .facts) (rising-of _ 0 (b .facts) (w .facts-rise .rises)));
+    off-below = wider (noMask-lt _ (b .facts) (rising-of _ 0 (b .facts) (w .facts-rise .rises)));
+    apart = rising-apart _ 0 (b .facts) (w .facts-rise .rises);
+  }
 
   rules-fit : (mask : List Literal → ℕ) → length (map mask (b .rules)) ≤ 128
   rules-fit mask = omega (arith, length-map (b .rules) mask, w .rule-count, w .few-rules)
 
   pub posable : Posable (posed-from (kept b))
   posable = record {
-      few-rules = w .few-rules;
-      yes-room = padded-length 128 _ (rules-fit yesMask);
-      no-room = padded-length 128 _ (rules-fit noMask);
-      choices-below = wider (full-lt (b .header .choices));
-      posed = rw (kept-rules yesMask (b .rules) (b .header .rules) (w .rule-count), kept-rules noMask (b .rules) (b .header .rules) (w .rule-count)) posed }
+    few-rules = w .few-rules;
+    yes-room = padded-length 128 _ (rules-fit yesMask);
+    no-room = padded-length 128 _ (rules-fit noMask);
+    choices-below = wider (full-lt (b .header .choices));
+    posed = rw (kept-rules yesMask (b .rules) (b .header .rules) (w .rule-count), kept-rules noMask (b .rules) (b .header .rules) (w .rule-count)) posed;
+  }
 
   -- ---- models
 
@@ -196,11 +199,12 @@ module _ {b : OrderBook} (w : WellFormed b) where
     consequence-exactly : Exactly (problemOf b) (yesMask (b .facts)) (noMask (b .facts)) d (collect (b .header .choices) (λ v. follows b (l v)))
     unfolding problemOf follows
     consequence-exactly = record {
-        below = wider (collect-lt (b .header .choices) (λ v. follows b (l v)));
-        sound = λ v e. let t = collect-true (b .header .choices) (λ u. follows b (l u)) v e in
+      below = wider (collect-lt (b .header .choices) (λ v. follows b (l v)));
+      sound = λ v e. let t = collect-true (b .header .choices) (λ u. follows b (l u)) v e in
           (bit-full (b .header .choices) v (t .0), λ f m. says f v (implied _ _ (every-all _ _ (t .1) f (m .below)) (masked-models f m)));
-        complete = λ v h c a. collect-in (b .header .choices) (λ u. follows b (l u)) v (choice-lt v c)
-          (all-every _ _ (λ f k. implies _ _ (λ t. said f v (a f (models-masked f k t))))) }
+      complete = λ v h c a. collect-in (b .header .choices) (λ u. follows b (l u)) v (choice-lt v c)
+          (all-every _ _ (λ f k. implies _ _ (λ t. said f v (a f (models-masked f k t)))));
+    }
 
   pub yes-consequence : yesForced (problemOf b) (yesMask (b .facts)) (noMask (b .facts)) ≡ yesConsequence b
   unfolding yesConsequence holds

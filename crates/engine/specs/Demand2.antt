@@ -79,6 +79,7 @@ consequence-demand b = record { follows-always = sound; all-filled-in = complete
     sound (negsuc v) i =
         let t = collect-true (b .header .choices) (λ u. follows b (negsuc u)) v i in
         (record { some = omega arith; upto = t .0 }, follows-is b _ (t .1))
+
     complete : (l : Literal) → OverChoice b l → Always b l → FilledIn (record { yes = yesConsequence b; no = noConsequence b }) l
     complete (pos zero) o a = absurd (omega (arith, o .some))
     complete (pos (suc v)) o a = collect-in (b .header .choices) (λ u. follows b (pos (suc u))) v (o .upto) (is-follows b _ a)
@@ -101,11 +102,13 @@ demand-2 s r e = go (readBook s) r e
       where
         same : two ≡ record { yes = yesConsequence b; no = noConsequence b }
         same = cc
+
         none : ((f : ℕ) → f < 2 ^ b .header .variables → models b f ≡ true → ⊥) → ⊥
         none n = witness b m n
     by b end (Forced two) false m e = let z : _≡_ {A = ℕ} 0 1 = cc in absurd (omega arith)
     by b end (Refused number place) true m e = let z : _≡_ {A = ℕ} 0 1 = cc in absurd (omega arith)
     by b end (Refused number place) false m e = (cc, cc, no-filling b m)
+
     go : (m : Read OrderBook) (r : ConsequenceAnswer) → r ≡ consequenceAnswer m → Answers m r
     go (refused n p) r e = e
     go (value b end) r e = by b end r (hasModel b) refl e

@@ -15,7 +15,8 @@ problemOf b =
       variables = b .header .variables;
       yes-masks = map yesMask (b .rules);
       no-masks = map noMask (b .rules);
-      choices = full (b .header .choices) }
+      choices = full (b .header .choices);
+    }
 
 -- The same, as the code makes it from a book as it is kept, with the given facts.
 abbrev pub posed-from : Book → Posing
@@ -26,4 +27,5 @@ posed-from b =
       yes = b .yes;
       no = b .no;
       choices = full (b .choices);
-      facts = record { yes = b .«facts_yes»; no = b .«facts_no» } }
+      facts = record { yes = b .«facts_yes»; no = b .«facts_no» };
+    }

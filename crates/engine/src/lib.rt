@@ -4,7 +4,9 @@ ghost use Rattle.book.specs.Format.{readBook};
 ghost use Rattle.book.specs.Answer.{bookAnswer, tableAnswer};
 ghost use Rattle.engine.specs.Answer.{Modelled, consequenceAnswer};
 ghost use Rattle.engine.specs.Contracts.{Posable, FoundModel, FoundForced};
+
 pub mod problem;
+
 use book::Book;
 use book::Reading;
 use consequence::Consequence;
