@@ -15,3 +15,8 @@ variable (negsuc n) = suc n
 -- The literal that a byte is, in two's complement.
 unfoldable pub ofByte : ℕ → Literal
 ofByte b = cond (ltb b 128) (pos b) (negsuc (255 - b))
+
+-- The byte that a literal is, in two's complement.
+unfoldable pub byteOf : Literal → ℕ
+byteOf (pos v) = v
+byteOf (negsuc v) = 255 - v

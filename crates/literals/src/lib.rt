@@ -1,7 +1,7 @@
 // Literals as signed bytes, and sets of literals as two masks.
 ghost use mathlib.Core.Path.{_≡_};
 ghost use Prim.Native.Nat.{_≤_, _<_};
-ghost use Rattle.literals.specs.Literal.{variable, ofByte};
+ghost use Rattle.literals.specs.Literal.{variable, ofByte, byteOf};
 ghost use Rattle.literals.specs.Grown.{Grown};
 
 // The literal that a byte is: a signed byte in two's complement.
@@ -23,6 +23,17 @@ pub fn variable(l: i8) -> u8
         return 128;
     }
     if l < 0 { (-l) as u8 } else { l as u8 }
+}
+
+// The byte that a literal is.
+pub fn to_byte(l: i8) -> u8
+    ensures { λ r. ⌜ r ≡ byteOf l ⌝ }
+{
+    if l < 0 {
+        (l as i16 + 256) as u8
+    } else {
+        l as u8
+    }
 }
 
 // A set of literals: the variables that it says yes of, and those that it says no of. Bit v - 1 stands for variable v.

@@ -1,0 +1,169 @@
+-- The cheapest set: the laws of a hitting-set search that goes depth first under a bound. It searches any sets of costed items, as masks of any
+-- number of bits, with any contradiction test `Con` and any key that does not fall from a set to a superset. Assumes nothing.
+use mathlib.Core.Path.{_≡_, refl, sym, ap, subst, _∙_}
+use mathlib.Core.Logic.{_⊎_, inl, inr, ⊎-elim, by-cases}
+use Prim.Native.Nat.{ℕ, _+_, _-_, _*_, _≤_, _<_}
+use native.Mathlib.Decide.{ℕ-discrete}
+use native.Mathlib.Omega.{arith}
+use Rattle.sets.specs.Sets.{bit, inter, insert, remove, Within, Apart}
+use Rattle.sets.specs.Laws.Bits.{bit-le, bit-zero, bit-inter, bit-insert-same, bit-insert-other, bit-remove-same, bit-remove-other}
+use Rattle.sets.specs.Laws.Subset.{within-refl, within-trans, within-le}
+
+-- ---- the least key
+
+-- r is the least of the bound b and the keys of what has P.
+pub record Least {A : Type 0} (P : A → Type 0) (key : A → ℕ) (b r : ℕ) : Type 0 where
+  pub low : r ≤ b
+  pub least : (t : A) → P t → r ≤ key t
+  pub from : (r ≡ b) ⊎ ((t : A) × P t × (r ≡ key t))
+
+-- there is one such number
+pub least-unique : {A : Type 0} {P : A → Type 0} {key : A → ℕ} {b r s : ℕ} → Least P key b r → Least P key b s → r ≡ s
+least-unique {A} {P} {key} {b} {r} {s} x y = omega (arith, under x y (y .from), under y x (x .from))
+  where
+    under : {u v : ℕ} → Least P key b u → Least P key b v → (v ≡ b) ⊎ ((t : A) × P t × (v ≡ key t)) → u ≤ v
+    under g h (inl e) = omega (arith, g .low)
+    under g h (inr w) = omega (arith, g .least (w .0) (w .1), w .2)
+
+-- what is under the bound is a key
+pub least-some : {A : Type 0} {P : A → Type 0} {key : A → ℕ} {b r : ℕ} → Least P key b r → (r ≡ b → ⊥) → (t : A) × P t × (r ≡ key t)
+least-some {A} {P} {key} {b} {r} x d = go (x .from)
+  where
+    go : (r ≡ b) ⊎ ((t : A) × P t × (r ≡ key t)) → (t : A) × P t × (r ≡ key t)
+    go (inl e) = absurd (d e)
+    go (inr w) = w
+
+module _ {A : Type 0} {key : A → ℕ} where
+  -- nothing has P
+  pub least-none : {P : A → Type 0} {b : ℕ} → ((t : A) → P t → ⊥) → Least P key b b
+  least-none n = record { low = omega arith; least = λ t p. absurd (n t p); from = inl refl }
+
+  -- P is Q or R: first those of Q, then those of R, under the bound that Q gave
+  pub least-both : {P Q R : A → Type 0} {b m r : ℕ} → ((t : A) → P t → Q t ⊎ R t) → ((t : A) → Q t → P t) → ((t : A) → R t → P t)
+      → Least Q key b m → Least R key m r → Least P key b r
+  least-both {P} {Q} {R} {b} {m} {r} split left right x y =
+      record { low = omega (arith, x .low, y .low); least = λ t p. under t (split t p); from = came (y .from) (x .from) }
+    where
+      under : (t : A) → Q t ⊎ R t → r ≤ key t
+      under t (inl q) = omega (arith, x .least t q, y .low)
+      under t (inr w) = y .least t w
+
+      came : (r ≡ m) ⊎ ((t : A) × R t × (r ≡ key t)) → (m ≡ b) ⊎ ((t : A) × Q t × (m ≡ key t)) → (r ≡ b) ⊎ ((t : A) × P t × (r ≡ key t))
+      came (inr w) g = inr (w .0, right (w .0) (w .1), w .2)
+      came (inl e) (inl d) = inl (e ∙ d)
+      came (inl e) (inr w) = inr (w .0, left (w .0) (w .1), e ∙ w .2)
+
+-- the same keys under other names
+pub least-same : {A B : Type 0} {P : A → Type 0} {key : A → ℕ} {R : B → Type 0} {other : B → ℕ} {b r : ℕ}
+    → ((x : B) → R x → (t : A) × P t × (key t ≡ other x)) → ((t : A) → P t → (x : B) × R x × (other x ≡ key t)) → Least P key b r
+    → Least R other b r
+least-same {A} {B} {P} {key} {R} {other} {b} {r} back forth l =
+    record { low = l .low; least = λ x p. under x (back x p); from = came (l .from) }
+  where
+    under : (x : B) → (t : A) × P t × (key t ≡ other x) → r ≤ other x
+    under x w = omega (arith, l .least (w .0) (w .1), w .2)
+
+    came : (r ≡ b) ⊎ ((t : A) × P t × (r ≡ key t)) → (r ≡ b) ⊎ ((x : B) × R x × (r ≡ other x))
+    came (inl e) = inl e
+    came (inr w) = let o = forth (w .0) (w .1) in inr (o .0, o .1, w .2 ∙ sym (o .2))
+
+-- ---- one element more, one less
+
+pub within-insert : (s v : ℕ) → Within s (insert s v)
+within-insert s v = record { keeps = at }
+  where
+    at : (u : ℕ) → bit s u ≤ bit (insert s v) u
+    at u =
+        by-cases (ℕ-discrete u v) (λ q. rw q (omega (arith, bit-le s v, bit-insert-same s v))) (λ q. omega (arith, bit-insert-other s v u q))
+
+pub insert-within : (s t v : ℕ) → Within s t → bit t v ≡ 1 → Within (insert s v) t
+insert-within s t v w e = record { keeps = at }
+  where
+    at : (u : ℕ) → bit (insert s v) u ≤ bit t u
+    at u =
+        by-cases (ℕ-discrete u v) (λ q. rw q (omega (arith, bit-le (insert s v) v))) (λ q. omega (arith, bit-insert-other s v u q, w .keeps u))
+
+pub remove-within : (t v : ℕ) → Within (remove t v) t
+remove-within t v = record { keeps = at }
+  where
+    at : (u : ℕ) → bit (remove t v) u ≤ bit t u
+    at u = by-cases (ℕ-discrete u v) (λ q. rw q (omega (arith, bit-remove-same t v))) (λ q. omega (arith, bit-remove-other t v u q))
+
+pub within-remove : (s t v : ℕ) → Within s t → bit s v ≡ 0 → Within s (remove t v)
+within-remove s t v w e = record { keeps = at }
+  where
+    at : (u : ℕ) → bit s u ≤ bit (remove t v) u
+    at u = by-cases (ℕ-discrete u v) (λ q. rw q (omega arith)) (λ q. omega (arith, bit-remove-other t v u q, w .keeps u))
+
+-- a set with one element more is a larger number, and a set with one less a smaller one
+pub insert-more : (s v : ℕ) → bit s v ≡ 0 → s < insert s v
+insert-more s v e =
+    let ne : s ≡ insert s v → ⊥ = λ p. omega (arith, ap (λ (x : ℕ). bit x v) p, bit-insert-same s v) in
+    omega (arith, within-le s (insert s v) (within-insert s v))
+
+pub remove-less : (t v : ℕ) → bit t v ≡ 1 → remove t v < t
+remove-less t v e =
+    let ne : remove t v ≡ t → ⊥ = λ p. omega (arith, ap (λ (x : ℕ). bit x v) p, bit-remove-same t v) in
+    omega (arith, within-le (remove t v) t (remove-within t v))
+
+-- ---- the sets between s and top
+
+-- The set t contradicts, holds s and lies within top.
+pub record Between (Con : ℕ → Type 0) (s top t : ℕ) : Type 0 where
+  pub above : Within s t
+  pub below : Within t top
+  pub holds : Con t
+
+-- The key does not fall from a set to a superset.
+pub record Rises (key : ℕ → ℕ) : Type 0 where
+  pub rises : (s t : ℕ) → Within s t → key s ≤ key t
+
+-- The oracle's second answer: w is apart from s, and every contradicting set between s and top meets w.
+pub record Hit (Con : ℕ → Type 0) (s top w : ℕ) : Type 0 where
+  pub apart : Apart s w
+  pub meets : (t : ℕ) → Between Con s top t → (v : ℕ) × (bit w v ≡ 1) × (bit t v ≡ 1)
+
+module _ {Con : ℕ → Type 0} {key : ℕ → ℕ} {s top : ℕ} where
+  -- the key of s is not below the bound: no superset's is
+  pub prune : {b : ℕ} → Rises key → b ≤ key s → Least (Between Con s top) key b b
+  prune m h = record { low = omega arith; least = λ t p. omega (arith, m .rises s t (p .above)); from = inl refl }
+
+  -- s contradicts, and no superset has a lower key
+  pub hit : {b : ℕ} → Rises key → Within s top → Con s → key s < b → Least (Between Con s top) key b (key s)
+  hit m w c h =
+      record {
+        low = omega arith;
+        least = λ t p. m .rises s t (p .above);
+        from = inr (s, record { above = within-refl s; below = w; holds = c }, refl);
+      }
+
+  -- no member of the witness is left: no set between s and top contradicts
+  pub no-member : {b w : ℕ} → Hit Con s top w → inter w top ≡ 0 → Least (Between Con s top) key b b
+  no-member {b} {w} h z = least-none (λ t p. clash t p (h .meets t p))
+    where
+      clash : (t : ℕ) → Between Con s top t → (v : ℕ) × (bit w v ≡ 1) × (bit t v ≡ 1) → ⊥
+      clash t p (v, a, c) = omega (arith, bit-inter w top v, ap (λ (x : ℕ). bit x v) z, bit-zero v, p .below .keeps v, bit-le top v)
+
+  -- a member v of the witness within top: the sets with v, and then those without it
+  pub branch-on : (v : ℕ) {b m r : ℕ} → Within s top → bit s v ≡ 0 → bit top v ≡ 1 → Least (Between Con (insert s v) top) key b m
+      → Least (Between Con s (remove top v)) key m r → Least (Between Con s top) key b r
+  branch-on v w i o x y = least-both split left right x y
+    where
+      split : (t : ℕ) → Between Con s top t → Between Con (insert s v) top t ⊎ Between Con s (remove top v) t
+      split t p =
+          by-cases (ℕ-discrete (bit t v) 1)
+          (λ e. inl (record { above = insert-within s t v (p .above) e; below = p .below; holds = p .holds }))
+          (λ d. inr (record { above = p .above; below = within-remove t top v (p .below) (omega (arith, bit-le t v)); holds = p .holds }))
+
+      left : (t : ℕ) → Between Con (insert s v) top t → Between Con s top t
+      left t p = record { above = within-trans s (insert s v) t (within-insert s v) (p .above); below = p .below; holds = p .holds }
+
+      right : (t : ℕ) → Between Con s (remove top v) t → Between Con s top t
+      right t p = record { above = p .above; below = within-trans t (remove top v) top (p .below) (remove-within top v); holds = p .holds }
+
+-- the witness serves for the sets without v
+pub hit-rest : {Con : ℕ → Type 0} {s top w : ℕ} (v : ℕ) → Hit Con s top w → Hit Con s (remove top v) w
+hit-rest {Con} {s} {top} v h = record { apart = h .apart; meets = λ t p. h .meets t (wider t p) }
+  where
+    wider : (t : ℕ) → Between Con s (remove top v) t → Between Con s top t
+    wider t p = record { above = p .above; below = within-trans t (remove top v) top (p .below) (remove-within top v); holds = p .holds }

@@ -1,0 +1,211 @@
+-- What the functions of the step ask and say.
+use mathlib.Core.Path.{_≡_}
+use mathlib.Core.Bool.{Bool, true, false, not, cond}
+use mathlib.Core.List.{List, [], _∷_}
+use Prim.Native.Nat.{ℕ, zero, suc, _+_, _-_, _*_, _^_, _≤_, _<_}
+use lib.IntN.{pos, negsuc}
+use lib.ListN.{length, getD}
+use Rattle.sets.specs.Sets.{bit, full, union, inter, diff, insert, Within, Apart}
+use Rattle.literals.specs.Literal.{Literal}
+use Rattle.literals.specs.declared.LiteralSet.{LiteralSet}
+use Rattle.book.specs.Limits.{maxVariables, maxChoices, maxRules, maxCost}
+use Rattle.sat.specs.Meaning.{Model, NoModel}
+use Rattle.sat.specs.Contracts.{Posed}
+use Rattle.consequence.specs.Meaning.{yesForced, noForced}
+use Rattle.consequence.specs.Laws.{NoModelOf}
+use Rattle.consequence.specs.Contracts.{problem}
+use Rattle.step.specs.Meaning.{costOf, sumBelow, literalOf, Question, goals, againstOn, againstOff, candidateCost, Answer, nothingLeft, noCandidate, step}
+use Rattle.step.specs.Cheapest.{Least, Between, Hit}
+use Rattle.step.specs.declared.Aim.{Aim}
+use Rattle.step.specs.declared.Part.{Part}
+use Rattle.step.specs.declared.Next.{Next}
+
+
+-- ---- costs
+
+-- The cost of a literal. There is no variable 0.
+unfoldable pub literalCost : List (List ℕ) → Literal → ℕ
+literalCost table (pos zero) = 0
+literalCost table (pos (suc v)) = costOf table v 0
+literalCost table (negsuc v) = costOf table v 1
+
+-- The cost of the known literal over variable v + 1, and 0 where there is none.
+unfoldable pub weightOf : List (List ℕ) → ℕ → ℕ → ℕ → ℕ
+weightOf table on off v = bit on v * costOf table v 0 + bit off v * costOf table v 1
+
+pub record Weighed (table : List (List ℕ)) (on off : ℕ) (ws : List ℕ) : Type 0 where
+  pub rows : length ws ≡ maxChoices
+  pub weighs : (v : ℕ) → v < maxChoices → getD ws v 0 ≡ weightOf table on off v
+
+-- The sum of the weights of the elements of s below n.
+unfoldable pub total : List ℕ → ℕ → ℕ → ℕ
+total ws n s = sumBelow n (λ v. bit s v * getD ws v 0)
+
+-- ---- the order as one number
+
+abbrev pub keyOf : ℕ → ℕ → ℕ → ℕ
+keyOf cost goal s = (cost * 64 + goal) * 4294967296 + s
+
+-- What a key of 64 bits has room for, so that it is below that of no candidate.
+pub record Small (cost goal s : ℕ) : Type 0 where
+  pub cost-small : cost < 65536
+  pub goal-small : goal < 64
+  pub set-small : s < 4294967296
+
+-- ---- the search for one goal
+
+-- The reasons over the variables of s, with the goal's opposite.
+unfoldable pub aimOn : Aim → ℕ → ℕ
+aimOn aim s = cond (aim .says) (inter s (aim .on)) (insert (inter s (aim .on)) (aim .goal))
+
+unfoldable pub aimOff : Aim → ℕ → ℕ
+aimOff aim s = cond (aim .says) (insert (inter s (aim .off)) (aim .goal)) (inter s (aim .off))
+
+pub record Against (aim : Aim) (s on off : ℕ) : Type 0 where
+  pub on-said : on ≡ aimOn aim s
+  pub off-said : off ≡ aimOff aim s
+
+-- The variables of the known literals that a filling makes false.
+abbrev pub deniedBy : ℕ → ℕ → ℕ → ℕ
+deniedBy on off f = union (diff on f) (inter off f)
+
+-- No filling obeys the rules and makes the reasons and the goal's opposite true.
+abbrev pub Refutes : ℕ → List ℕ → List ℕ → Aim → ℕ → Type 0
+Refutes n ys ns aim s = NoModel n ys ns (aimOn aim s) (aimOff aim s)
+
+-- The key of a set.
+abbrev pub keyAt : ℕ → List ℕ → Aim → ℕ → ℕ
+keyAt n ws aim s = keyOf (aim .cost + total ws n s) (aim .goal) s
+
+-- Rules, known literals, their weights and a goal that is not known.
+pub record Sought (n : ℕ) (ys ns ws : List ℕ) (aim : Aim) : Type 0 where
+  pub posed : Posed n ys ns (aim .on) (aim .off)
+  pub few : n ≤ maxVariables
+  pub goal-below : aim .goal < n
+  pub not-on : bit (aim .on) (aim .goal) ≡ 0
+  pub not-off : bit (aim .off) (aim .goal) ≡ 0
+  pub weighed : union (aim .on) (aim .off) < 2 ^ length ws
+  pub cheap : aim .cost + total ws n (full n) < 65536
+
+pub record Exploring (n : ℕ) (ys ns ws : List ℕ) (aim : Aim) (part : Part) : Type 0 where
+  pub sought : Sought n ys ns ws aim
+  pub nested : Within (part .chosen) (part .limit)
+  pub known : Within (part .limit) (union (aim .on) (aim .off))
+  pub priced : part .cost ≡ aim .cost + total ws n (part .chosen)
+
+-- Each candidate of the part holds a variable of the witness.
+pub record Branching (n : ℕ) (ys ns ws : List ℕ) (aim : Aim) (part : Part) (witness : ℕ) : Type 0 where
+  pub exploring : Exploring n ys ns ws aim part
+  pub hits : Hit (Refutes n ys ns aim) (part .chosen) (part .limit) witness
+
+-- The least of the bound and the keys of the candidates in the part.
+pub record Explored (n : ℕ) (ys ns ws : List ℕ) (aim : Aim) (part : Part) (best r : ℕ) : Type 0 where
+  pub cheapest : Least (Between (Refutes n ys ns aim) (part .chosen) (part .limit)) (keyAt n ws aim) best r
+
+-- ---- the search over all goals
+
+-- What the arguments ask.
+abbrev pub question : ℕ → List ℕ → List ℕ → ℕ → List (List ℕ) → LiteralSet → LiteralSet → Question
+question n ys ns ch table c k =
+    record {
+      problem = problem n ys ns ch;
+      table = table;
+      con-on = c .yes;
+      con-off = c .no;
+      known-on = k .yes;
+      known-off = k .no;
+    }
+
+-- The goal over variable v + 1, and all sets of known variables.
+abbrev pub aimAt : List (List ℕ) → LiteralSet → ℕ → Bool → Aim
+aimAt table k v says =
+    record { goal = v; says = says; on = k .yes; off = k .no; cost = literalCost table (literalOf v (not says)) }
+
+abbrev pub whole : Aim → Part
+whole aim = record { chosen = 0; limit = union (aim .on) (aim .off); cost = aim .cost }
+
+-- Rules and a consequence of few variables, within it what is known, and costs that are small.
+pub record Ready (n : ℕ) (ys ns : List ℕ) (table : List (List ℕ)) (c k : LiteralSet) : Type 0 where
+  pub posed : Posed n ys ns (c .yes) (c .no)
+  pub few : n ≤ maxVariables
+  pub rows : union (c .yes) (c .no) < 2 ^ maxChoices
+  pub known-yes : Within (k .yes) (c .yes)
+  pub known-no : Within (k .no) (c .no)
+  pub cheap : (v column : ℕ) → costOf table v column ≤ maxCost
+
+-- A candidate, in the logical form: v is the variable of a goal, and no filling obeys the rules and makes the set s of known literals and the
+-- opposite of the goal true.
+pub record Picks (q : Question) (v s : ℕ) : Type 0 where
+  pub goal : bit (goals q) v ≡ 1
+  pub known : Within s (union (q .known-on) (q .known-off))
+  pub refuted : NoModelOf (q .problem) (againstOn q s v) (againstOff q s v)
+
+-- A goal and a set, and their key.
+pub record Pair : Type 0 where
+  pub goal : ℕ
+  pub set : ℕ
+
+abbrev pub pairKey : Question → Pair → ℕ
+pairKey q x = keyOf (candidateCost q (x .goal) (x .set)) (x .goal) (x .set)
+
+abbrev pub Picked : Question → Pair → Type 0
+Picked q x = Picks q (x .goal) (x .set)
+
+-- The key of no candidate.
+abbrev pub noKey : ℕ
+noKey = 18446744073709551615
+
+-- r is the least key of all candidates. The choices do not matter to it.
+pub record Found (n : ℕ) (ys ns : List ℕ) (table : List (List ℕ)) (c k : LiteralSet) (r : ℕ) : Type 0 where
+  pub cheapest : (ch : ℕ) → Least (Picked (question n ys ns ch table c k)) (pairKey (question n ys ns ch table c k)) noKey r
+
+-- The same while the goals of `left` are still to be tried.
+pub record Trying (q : Question) (left : ℕ) (x : Pair) : Type 0 where
+  pub picks : Picked q x
+  pub tried : bit left (x .goal) ≡ 0
+
+pub record Searching (n : ℕ) (ys ns : List ℕ) (table : List (List ℕ)) (c k : LiteralSet) (left r : ℕ) : Type 0 where
+  pub untried : Within left (union (diff (c .yes) (k .yes)) (diff (c .no) (k .no)))
+  pub cheapest : (ch : ℕ) → Least (Trying (question n ys ns ch table c k) left) (pairKey (question n ys ns ch table c k)) noKey r
+
+-- ---- the new literals
+
+-- Reasons that some filling makes true with the rules.
+pub record Reasoned (n : ℕ) (ys ns : List ℕ) (ch : ℕ) (r : LiteralSet) : Type 0 where
+  pub posed : Posed n ys ns (r .yes) (r .no)
+  pub short : length ys ≤ maxRules
+  pub choices-below : ch < 2 ^ n
+  pub model : (f : ℕ) × Model n ys ns (r .yes) (r .no) f
+
+pub record Learnt (n : ℕ) (ys ns : List ℕ) (ch : ℕ) (reasons k r : LiteralSet) : Type 0 where
+  pub yes-new : r .yes ≡ diff (yesForced (problem n ys ns ch) (reasons .yes) (reasons .no)) (k .yes)
+  pub no-new : r .no ≡ diff (noForced (problem n ys ns ch) (reasons .yes) (reasons .no)) (k .no)
+
+-- ---- the next step
+
+-- The rules and the limits, a consequence over choices that has a model, within it what is known, and the costs.
+pub record Asked (n : ℕ) (ys ns : List ℕ) (ch : ℕ) (table : List (List ℕ)) (c k : LiteralSet) : Type 0 where
+  pub posed : Posed n ys ns (c .yes) (c .no)
+  pub few : n ≤ maxVariables
+  pub short : length ys ≤ maxRules
+  pub choices-below : ch < 2 ^ n
+  pub rows : ch < 2 ^ maxChoices
+  pub yes-choices : Within (c .yes) ch
+  pub no-choices : Within (c .no) ch
+  pub known-yes : Within (k .yes) (c .yes)
+  pub known-no : Within (k .no) (c .no)
+  pub model : (f : ℕ) × Model n ys ns (c .yes) (c .no) f
+  pub cheap : (v column : ℕ) → costOf table v column ≤ maxCost
+
+-- A least key that is one of a candidate.
+pub record Taken (n : ℕ) (ys ns : List ℕ) (ch : ℕ) (table : List (List ℕ)) (c k : LiteralSet) (best : ℕ) : Type 0 where
+  pub asked : Asked n ys ns ch table c k
+  pub found : Found n ys ns table c k best
+  pub some : best ≡ noKey → ⊥
+
+-- The answer for each case.
+abbrev pub answer : Answer → Next
+answer nothingLeft = Next.NothingLeft
+answer noCandidate = Next.NoCandidate
+answer (step s) =
+    Next.Step (s .goal) (record { yes = s .reasons-on; no = s .reasons-off }) (record { yes = s .new-on; no = s .new-off }) (s .cost)

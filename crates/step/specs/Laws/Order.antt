@@ -1,0 +1,149 @@
+-- The order of the candidates: it is total, `firstOf` gives the first of a list, and as a key of 64 bits it is the order of numbers.
+-- Assumes nothing.
+use mathlib.Core.Path.{_≡_, refl, sym, ap, subst, _∙_}
+use mathlib.Core.Logic.{_⊎_, inl, inr, by-cases}
+use mathlib.Core.Bool.{Bool, true, false, _&&_, _||_, true≢false, false≢true}
+use mathlib.Core.List.{List, [], _∷_, List·Memᴰ, List·Memᴰ·head, List·Memᴰ·tail, List·Memᴰ·not-nil, List·Memᴰ·cases-cons}
+use mathlib.Core.Option.{Option, none, some}
+use Prim.Native.Nat.{ℕ, suc, _+_, _*_, _/_, _%_, _≤_, _<_}
+use native.Mathlib.Omega.{arith}
+use lib.Dec.{ltb, eqb}
+use borrow.Author.Tests.{ltb-true, ltb-false, eqb-true, eqb-false, lt-ltb, le-ltb}
+use Rattle.step.specs.Meaning.{Candidate, before, earlier, firstOf}
+use Rattle.step.specs.Contracts.{keyOf, Small}
+
+-- ---- the order as facts
+
+-- Less, or equal and then X.
+abbrev pub Lex : ℕ → ℕ → Type 0 → Type 0
+Lex a b X = (a < b) ⊎ ((a ≡ b) × X)
+
+lex-trans : {a b c : ℕ} {X Y Z : Type 0} → (X → Y → Z) → Lex a b X → Lex b c Y → Lex a c Z
+lex-trans f (inl h) (inl k) = inl (omega arith)
+lex-trans f (inl h) (inr k) = inl (omega (arith, k .0))
+lex-trans f (inr h) (inl k) = inl (omega (arith, h .0))
+lex-trans f (inr h) (inr k) = inr (h .0 ∙ k .0, f (h .1) (k .1))
+
+before-true : (a b : ℕ) (t : Bool) {X : Type 0} → (t ≡ true → X) → before a b t ≡ true → Lex a b X
+unfolding before
+before-true a b t {X} f e = go (ltb a b) (eqb a b) t refl refl f e
+  where
+    go : (x y z : Bool) → ltb a b ≡ x → eqb a b ≡ y → (z ≡ true → X) → x || (y && z) ≡ true → Lex a b X
+    go true y z p q g d = inl (ltb-true a b p)
+    go false true z p q g d = inr (eqb-true a b q, g d)
+    go false false z p q g d = absurd (false≢true d)
+
+before-false : (a b : ℕ) (t : Bool) {X : Type 0} → (t ≡ false → X) → before a b t ≡ false → Lex b a X
+unfolding before
+before-false a b t {X} f e = go (ltb a b) (eqb a b) t refl refl f e
+  where
+    go : (x y z : Bool) → ltb a b ≡ x → eqb a b ≡ y → (z ≡ false → X) → x || (y && z) ≡ false → Lex b a X
+    go true y z p q g d = absurd (true≢false d)
+    go false true z p q g d = inr (sym (eqb-true a b q), g d)
+    go false false z p q g d = let ne : a ≡ b → ⊥ = eqb-false a b q in inl (omega (arith, ltb-false a b p))
+
+-- c comes before d.
+abbrev pub Before : Candidate → Candidate → Type 0
+Before c d = Lex (c .cost) (d .cost) (Lex (c .goal) (d .goal) (c .reasons < d .reasons))
+
+-- c comes before d, or is d.
+abbrev pub Upto : Candidate → Candidate → Type 0
+Upto c d = Lex (c .cost) (d .cost) (Lex (c .goal) (d .goal) (c .reasons ≤ d .reasons))
+
+pub earlier-true : (c d : Candidate) → earlier c d ≡ true → Before c d
+unfolding earlier
+earlier-true c d = before-true _ _ _ (before-true _ _ _ (ltb-true _ _))
+
+pub earlier-false : (c d : Candidate) → earlier c d ≡ false → Upto d c
+unfolding earlier
+earlier-false c d = before-false _ _ _ (before-false _ _ _ (ltb-false _ _))
+
+pub upto-trans : {c d e : Candidate} → Upto c d → Upto d e → Upto c e
+upto-trans = lex-trans (lex-trans (λ h k. omega arith))
+
+pub upto-refl : (c : Candidate) → Upto c c
+upto-refl c = inr (refl, inr (refl, omega arith))
+
+weaken : {c d : Candidate} → Before c d → Upto c d
+weaken (inl h) = inl h
+weaken (inr (p, inl h)) = inr (p, inl h)
+weaken (inr (p, inr (q, h))) = inr (p, inr (q, omega arith))
+
+pub upto-cost : {c d : Candidate} → Upto c d → c .cost ≤ d .cost
+upto-cost (inl h) = omega arith
+upto-cost (inr h) = omega (arith, h .0)
+
+-- ---- the first of a list
+
+-- What `firstOf` gives: nothing of the empty list, and a member that comes before all others.
+abbrev pub FirstIn : List Candidate → Option Candidate → Type 0
+FirstIn cs none = (c : Candidate) → List·Memᴰ c cs → ⊥
+FirstIn cs (some d) = List·Memᴰ d cs × ((c : Candidate) → List·Memᴰ c cs → Upto d c)
+
+pub first-in : (cs : List Candidate) → FirstIn cs (firstOf cs)
+unfolding firstOf
+first-in [] = λ c m. List·Memᴰ·not-nil m
+first-in (c ∷ cs) = go (firstOf cs) (first-in cs)
+  where
+    alone : FirstIn cs none → (x : Candidate) → (x ≡ c) ⊎ List·Memᴰ x cs → Upto c x
+    alone f x (inl p) = subst (Upto c) (sym p) (upto-refl c)
+    alone f x (inr m) = absurd (f x m)
+
+    rest : (d : Candidate) → Upto d c → ((x : Candidate) → List·Memᴰ x cs → Upto d x) → (x : Candidate) → (x ≡ c) ⊎ List·Memᴰ x cs → Upto d x
+    rest d h f x (inl p) = subst (Upto d) (sym p) h
+    rest d h f x (inr m) = f x m
+
+    pick : (d : Candidate) (b : Bool) → earlier d c ≡ b → FirstIn cs (some d)
+        → FirstIn (c ∷ cs) (some (elim b [ true ↦ d | false ↦ c ]))
+    pick d true e f = (List·Memᴰ·tail (f .0), λ x m. rest d (weaken (earlier-true d c e)) (f .1) x (List·Memᴰ·cases-cons m))
+    pick d false e f =
+        (List·Memᴰ·head refl, λ x m. rest c (upto-refl c) (λ y k. upto-trans (earlier-false d c e) (f .1 y k)) x (List·Memᴰ·cases-cons m))
+
+    go : (o : Option Candidate) → FirstIn cs o
+        → FirstIn (c ∷ cs) (elim o [ none ↦ some c | some d ↦ some (elim (earlier d c) [ true ↦ d | false ↦ c ]) ])
+    go none f = (List·Memᴰ·head refl, λ x m. alone f x (List·Memᴰ·cases-cons m))
+    go (some d) f = pick d (earlier d c) refl f
+
+-- ---- the order as one number
+
+abbrev pub key : Candidate → ℕ
+key c = keyOf (c .cost) (c .goal) (c .reasons)
+
+abbrev pub SmallOne : Candidate → Type 0
+SmallOne c = Small (c .cost) (c .goal) (c .reasons)
+
+pub before-key : (c d : Candidate) → SmallOne c → SmallOne d → Before c d → key c < key d
+before-key c d x y (inl h) = omega (arith, x .goal-small, x .set-small)
+before-key c d x y (inr (p, inl h)) = omega (arith, x .set-small)
+before-key c d x y (inr (p, inr (q, h))) = omega arith
+
+pub upto-key : (c d : Candidate) → SmallOne c → SmallOne d → Upto c d → key c ≤ key d
+upto-key c d x y (inl h) = omega (arith, x .goal-small, x .set-small)
+upto-key c d x y (inr (p, inl h)) = omega (arith, x .set-small)
+upto-key c d x y (inr (p, inr (q, h))) = omega arith
+
+-- the order of the keys is the order of the candidates
+pub earlier-key : (c d : Candidate) → SmallOne c → SmallOne d → earlier c d ≡ ltb (key c) (key d)
+earlier-key c d x y = go (earlier c d) refl
+  where
+    go : (b : Bool) → earlier c d ≡ b → b ≡ ltb (key c) (key d)
+    go true e = sym (lt-ltb (key c) (key d) (before-key c d x y (earlier-true c d e)))
+    go false e = sym (le-ltb (key c) (key d) (upto-key d c y x (earlier-false c d e)))
+
+-- what a key says
+pub record Decoded (r cost goal s : ℕ) : Type 0 where
+  pub cost-of : r / 4294967296 / 64 ≡ cost
+  pub goal-of : r / 4294967296 % 64 ≡ goal
+  pub set-of : r % 4294967296 ≡ s
+
+pub decode : (cost goal s : ℕ) → Small cost goal s → Decoded (keyOf cost goal s) cost goal s
+decode cost goal s x =
+    record {
+      cost-of = omega (arith, x .goal-small, x .set-small);
+      goal-of = omega (arith, x .goal-small, x .set-small);
+      set-of = omega (arith, x .set-small);
+    }
+
+-- no candidate's key is above that of none
+pub key-below : (cost goal s : ℕ) → Small cost goal s → keyOf cost goal s < 18446744073709551615
+key-below cost goal s x = omega (arith, x .cost-small, x .goal-small, x .set-small)
