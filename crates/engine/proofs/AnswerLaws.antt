@@ -57,7 +57,7 @@ module _ {b : OrderBook} (w : WellFormed b) where
       (λ h. absurd (true≢false (sym h ∙ none-has w none)), λ h. ap₂ ModelAnswer.Refused (f .said .0) (f .said .1))
 
   -- the problem that was handed over is the book's
-  same-problem : problem (b .header .variables) (take (b .header .rules) (kept b .yes)) (take (b .header .rules) (kept b .no)) (posed-from (kept b) .choices) ≡ problemOf b
+  pub same-problem : problem (b .header .variables) (take (b .header .rules) (kept b .yes)) (take (b .header .rules) (kept b .no)) (posed-from (kept b) .choices) ≡ problemOf b
   unfolding problemOf
   same-problem = ap₂ (λ y n. problem (b .header .variables) y n (posed-from (kept b) .choices)) yes-rules no-rules
 

@@ -1,2 +1,3 @@
 mod AnswerLaws
 mod BookLaws
+mod StepLaws

@@ -1,13 +1,21 @@
 -- What the inner functions of the calls ask and say.
 use mathlib.Core.Path.{_≡_}
-use mathlib.Core.Bool.{true, false}
+use mathlib.Core.Bool.{Bool, true, false, cond, _&&_}
+use mathlib.Core.List.{List}
 use Prim.Native.Nat.{ℕ, _^_, _≤_, _<_}
 use lib.ListN.{length, take}
+use Rattle.sets.specs.Sets.{subset, Within}
+use Rattle.literals.specs.declared.LiteralSet.{LiteralSet}
+use Rattle.book.specs.Limits.{maxVariables, maxChoices, maxCost}
 use Rattle.sat.specs.Meaning.{Model, NoModel}
 use Rattle.sat.specs.Contracts.{Posed}
-use Rattle.consequence.specs.Meaning.{contradicts, yesForced, noForced}
+use Rattle.consequence.specs.Meaning.{Problem, contradicts, yesForced, noForced}
+use Rattle.step.specs.Meaning.{Question, Answer, nothingLeft, noCandidate, step, stepOf, costOf}
+use Rattle.step.specs.Contracts.{Asked, question}
 use Rattle.consequence.specs.Contracts.{problem}
 use Rattle.engine.specs.declared.problem.Posing.{Posing}
+use Rattle.engine.specs.declared.StepAnswer.{StepAnswer}
+use Rattle.engine.specs.declared.StepAnswer.the-variants as StepAnswer
 use Rattle.engine.specs.declared.ModelAnswer.{ModelAnswer}
 use Rattle.engine.specs.declared.ModelAnswer.the-variants as ModelAnswer
 use Rattle.engine.specs.declared.ConsequenceAnswer.{ConsequenceAnswer}
@@ -39,3 +47,43 @@ ForcedIn p (ConsequenceAnswer.Refused number place) =
 
 pub record FoundForced (p : Posing) (r : ConsequenceAnswer) : Type 0 where
   pub said : ForcedIn p r
+
+-- ---- the next step
+
+-- The answer on a step: document 01's values for each case.
+unfoldable pub stepSays : Answer → StepAnswer
+stepSays nothingLeft = StepAnswer.NothingLeft
+stepSays noCandidate = StepAnswer.Refused 11 0
+stepSays (step s) = StepAnswer.Step (s .goal) (record { yes = s .reasons-on; no = s .reasons-off }) (record { yes = s .new-on; no = s .new-off }) (s .cost)
+
+-- A known set lies between the given facts and the consequence.
+unfoldable pub between : LiteralSet → LiteralSet → LiteralSet → Bool
+between facts known forced = subset (facts .yes) (known .yes) && subset (facts .no) (known .no) && subset (known .yes) (forced .yes) && subset (known .no) (forced .no)
+
+-- The problem that the arguments are, and what its given facts force.
+abbrev pub problemIn : Posing → Problem
+problemIn p = problem (p .variables) (take (p .rules) (p .yes)) (take (p .rules) (p .no)) (p .choices)
+
+abbrev pub forcedIn : Posing → LiteralSet
+forcedIn p = record { yes = yesForced (problemIn p) (p .facts .yes) (p .facts .no); no = noForced (problemIn p) (p .facts .yes) (p .facts .no) }
+
+-- The step that is asked for.
+abbrev pub stepQuestion : Posing → List (List ℕ) → LiteralSet → LiteralSet → Answer
+stepQuestion p costs forced known = stepOf (question (p .variables) (take (p .rules) (p .yes)) (take (p .rules) (p .no)) (p .choices) costs forced known)
+
+-- 9 where the given facts contradict the rules, then 10 where the known set is not between them and what they force, then the step or 11.
+unfoldable pub stepIn : Posing → List (List ℕ) → LiteralSet → StepAnswer
+stepIn p costs known =
+    cond (contradicts (problemIn p) (p .facts .yes) (p .facts .no)) (StepAnswer.Refused 9 0)
+    (cond (between (p .facts) known (forcedIn p)) (stepSays (stepQuestion p costs (forcedIn p) known)) (StepAnswer.Refused 10 0))
+
+-- A problem and costs that a step can be taken of.
+pub record Steppable (p : Posing) (costs : List (List ℕ)) : Type 0 where
+  pub posable : Posable p
+  pub few : p .variables ≤ maxVariables
+  pub rows : p .choices < 2 ^ maxChoices
+  pub cheap : (v column : ℕ) → costOf costs v column ≤ maxCost
+
+pub record Stepping (p : Posing) (costs : List (List ℕ)) (forced known : LiteralSet) : Type 0 where
+  pub posable : Posable p
+  pub asked : Asked (p .variables) (take (p .rules) (p .yes)) (take (p .rules) (p .no)) (p .choices) costs forced known

@@ -1,5 +1,6 @@
 -- What the public calls mean, for any bytes (document 01, "Models and consequence", "Where each check is made"), on the rules as they stand in the book.
 use mathlib.Core.Bool.{Bool, true, false, not, cond, _||_}
+use mathlib.Core.List.{List}
 use Prim.Native.Nat.{ℕ, suc}
 use lib.IntN.{pos, negsuc}
 use Rattle.literals.specs.Literal.{Literal}

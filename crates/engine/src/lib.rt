@@ -2,8 +2,11 @@
 ghost use mathlib.Core.Path.{_≡_};
 ghost use Rattle.book.specs.Format.{readBook};
 ghost use Rattle.book.specs.Answer.{bookAnswer, tableAnswer};
+ghost use Prim.Native.Nat.{_≤_};
+ghost use lib.ListN.{length};
 ghost use Rattle.engine.specs.Answer.{Modelled, consequenceAnswer};
-ghost use Rattle.engine.specs.Contracts.{Posable, FoundModel, FoundForced};
+ghost use Rattle.engine.specs.Steps.{stepAnswer};
+ghost use Rattle.engine.specs.Contracts.{Posable, FoundModel, FoundForced, Steppable, between, stepIn, stepSays, stepQuestion, Stepping};
 
 pub mod problem;
 
@@ -13,6 +16,7 @@ use consequence::Consequence;
 use literals::LiteralSet;
 use problem::Posing;
 use sat::Partial;
+use step::Next;
 
 // A model of the book, or the refusal.
 pub enum ModelAnswer {
@@ -24,6 +28,34 @@ pub enum ModelAnswer {
 pub enum ConsequenceAnswer {
     Forced(LiteralSet),
     Refused { number: u8, place: usize },
+}
+
+// The next step, that nothing is left, or the refusal.
+pub enum StepAnswer {
+    Step {
+        goal: i8,
+        reasons: LiteralSet,
+        new: LiteralSet,
+        cost: u16,
+    },
+    NothingLeft,
+    Refused {
+        number: u8,
+        place: usize,
+    },
+}
+
+// The log's length, its number of steps and its total, or the refusal.
+pub enum LogAnswer {
+    Written {
+        length: usize,
+        steps: u8,
+        total: u32,
+    },
+    Refused {
+        number: u8,
+        place: usize,
+    },
 }
 
 // The book reader: the accepted book, or the refusal with its number and place.
@@ -111,6 +143,103 @@ fn propagate(p: Posing) -> ConsequenceAnswer
         Consequence::Forced(set) => ConsequenceAnswer::Forced(set),
         Consequence::NoModel => ConsequenceAnswer::Refused {
             number: 9,
+            place: 0,
+        },
+    }
+}
+
+// The next step from a known set: the variables known to be yes, and those known to be no.
+// Ruled out: a step that is a contradiction but not the cheapest; "nothing left" while a choice of the consequence is unknown.
+pub fn next_step(s: &[u8], known_yes: u64, known_no: u64) -> StepAnswer
+    ensures { λ r. ⌜ r ≡ stepAnswer «known_yes» «known_no» (readBook (now (s .entry))) ⌝ }
+{
+    let reading = book::read(s);
+    let outcome = reading.outcome;
+    match outcome {
+        book::Outcome::Refused { number, place } => StepAnswer::Refused { number, place },
+        book::Outcome::Accepted => {
+            let costs = book::read_costs(s);
+            let b = reading.book;
+            let known = LiteralSet {
+                yes: known_yes,
+                no: known_no,
+            };
+            step_of(problem::pose(b), costs, known)
+        }
+    }
+}
+
+// Whether a known set lies between the given facts and the consequence.
+fn lies_between(facts: LiteralSet, known: LiteralSet, forced: LiteralSet) -> bool
+    ensures { λ r. ⌜ r ≡ between facts known forced ⌝ }
+{
+    if !sets::subset(facts.yes, known.yes) {
+        return false;
+    }
+    if !sets::subset(facts.no, known.no) {
+        return false;
+    }
+    if !sets::subset(known.yes, forced.yes) {
+        return false;
+    }
+    sets::subset(known.no, forced.no)
+}
+
+// The next step of a problem, or refusal 9 or 10 or 11.
+fn step_of(p: Posing, costs: [[u16; 2]; Book::MAX_CHOICES], known: LiteralSet) -> StepAnswer
+    requires { ⌜ Steppable p costs ⌝ }
+    ensures { λ r. ⌜ r ≡ stepIn p costs known ⌝ }
+{
+    match propagate(p) {
+        ConsequenceAnswer::Refused { number, place } => StepAnswer::Refused { number, place },
+        ConsequenceAnswer::Forced(forced) => {
+            if !lies_between(p.facts, known, forced) {
+                return StepAnswer::Refused {
+                    number: 10,
+                    place: 0,
+                };
+            }
+            take_step(p, costs, forced, known)
+        }
+    }
+}
+
+// The step from a known set that lies between the given facts and the consequence.
+fn take_step(
+    p: Posing,
+    costs: [[u16; 2]; Book::MAX_CHOICES],
+    forced: LiteralSet,
+    known: LiteralSet,
+) -> StepAnswer
+    requires { ⌜ Stepping p costs forced known ⌝ }
+    ensures { λ r. ⌜ r ≡ stepSays (stepQuestion p costs forced known) ⌝ }
+{
+    let yes = p.yes;
+    let no = p.no;
+    let rules = p.rules;
+    match step::next_step(
+        p.variables,
+        &yes[..rules],
+        &no[..rules],
+        p.choices,
+        costs,
+        forced,
+        known,
+    ) {
+        Next::Step {
+            goal,
+            reasons,
+            new,
+            cost,
+        } => StepAnswer::Step {
+            goal,
+            reasons,
+            new,
+            cost,
+        },
+        Next::NothingLeft => StepAnswer::NothingLeft,
+        Next::NoCandidate => StepAnswer::Refused {
+            number: 11,
             place: 0,
         },
     }

@@ -75,7 +75,8 @@ wrapped z f h = go z f (rw (toZ-ofZ f) at h)
         record {
           wide = rw same wide;
           value = rw (same, toZ-ofZ {w = w16} {z = negsuc n} wide) (rw (le-ltb 256 (suc n) (omega arith)) (ap pos (omega arith)));
-          small = omega arith }
+          small = omega arith;
+        }
 
 -- a signed byte that is not negative is the byte itself
 pub itself : (z : ℤ) → SFits w8 z → ltZ (toZ w8 (ofZ w8 z)) (pos 0) ≡ false → natAbs z ≡ byteOf z

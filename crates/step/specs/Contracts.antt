@@ -1,11 +1,11 @@
 -- What the functions of the step ask and say.
 use mathlib.Core.Path.{_≡_}
-use mathlib.Core.Bool.{Bool, true, false, not, cond}
-use mathlib.Core.List.{List, [], _∷_}
-use Prim.Native.Nat.{ℕ, zero, suc, _+_, _-_, _*_, _^_, _≤_, _<_}
+use mathlib.Core.Bool.{Bool, not, cond}
+use mathlib.Core.List.{List, []}
+use Prim.Native.Nat.{ℕ, zero, suc, _+_, _*_, _/_, _%_, _^_, _≤_, _<_}
 use lib.IntN.{pos, negsuc}
 use lib.ListN.{length, getD}
-use Rattle.sets.specs.Sets.{bit, full, union, inter, diff, insert, Within, Apart}
+use Rattle.sets.specs.Sets.{bit, full, union, inter, diff, insert, Within}
 use Rattle.literals.specs.Literal.{Literal}
 use Rattle.literals.specs.declared.LiteralSet.{LiteralSet}
 use Rattle.book.specs.Limits.{maxVariables, maxChoices, maxRules, maxCost}
@@ -14,12 +14,11 @@ use Rattle.sat.specs.Contracts.{Posed}
 use Rattle.consequence.specs.Meaning.{yesForced, noForced}
 use Rattle.consequence.specs.Laws.{NoModelOf}
 use Rattle.consequence.specs.Contracts.{problem}
-use Rattle.step.specs.Meaning.{costOf, sumBelow, literalOf, Question, goals, againstOn, againstOff, candidateCost, Answer, nothingLeft, noCandidate, step}
+use Rattle.step.specs.Meaning.{costOf, sumBelow, literalOf, Question, goals, againstOn, againstOff, candidateCost, Answer, nothingLeft, noCandidate, Step, step, stepFrom}
 use Rattle.step.specs.Cheapest.{Least, Between, Hit}
 use Rattle.step.specs.declared.Aim.{Aim}
 use Rattle.step.specs.declared.Part.{Part}
 use Rattle.step.specs.declared.Next.{Next}
-
 
 -- ---- costs
 
@@ -197,11 +196,16 @@ pub record Asked (n : ℕ) (ys ns : List ℕ) (ch : ℕ) (table : List (List ℕ
   pub model : (f : ℕ) × Model n ys ns (c .yes) (c .no) f
   pub cheap : (v column : ℕ) → costOf table v column ≤ maxCost
 
--- A least key that is one of a candidate.
-pub record Taken (n : ℕ) (ys ns : List ℕ) (ch : ℕ) (table : List (List ℕ)) (c k : LiteralSet) (best : ℕ) : Type 0 where
-  pub asked : Asked n ys ns ch table c k
-  pub found : Found n ys ns table c k best
-  pub some : best ≡ noKey → ⊥
+-- The key of a candidate whose reasons have a model.
+pub record Chosen (n : ℕ) (ys ns : List ℕ) (ch : ℕ) (k : LiteralSet) (best : ℕ) : Type 0 where
+  pub reasoned : Reasoned n ys ns ch (record { yes = inter (best % 4294967296) (k .yes); no = inter (best % 4294967296) (k .no) })
+  pub cheap : best / 4294967296 / 64 < 65536
+
+-- The step that a key stands for. The costs do not matter to it.
+abbrev pub stepAt : ℕ → List ℕ → List ℕ → ℕ → LiteralSet → LiteralSet → ℕ → Step
+stepAt n ys ns ch c k best =
+    stepFrom (question n ys ns ch [] c k)
+    (record { cost = best / 4294967296 / 64; goal = best / 4294967296 % 64; reasons = best % 4294967296 })
 
 -- The answer for each case.
 abbrev pub answer : Answer → Next

@@ -1,45 +1,13 @@
 -- The steps of book P (document 01, "The printed log"), computed. Assumes nothing.
 use mathlib.Core.Path.{_≡_, refl}
-use mathlib.Core.List.{List, [], _∷_}
+use mathlib.Core.List.{[], _∷_}
 use Prim.Native.Nat.{ℕ}
 use lib.IntN.{pos}
 use Rattle.sets.specs.Sets.{bit, has, diff, insert, subset, disjoint}
 use Rattle.literals.specs.Truth.{obeysMasks, allHoldMasks}
 use Rattle.sat.specs.Meaning.{everyUnder, everyFilling, obeysAll}
 use Rattle.consequence.specs.Meaning.{Problem, obeying, contradicts, forcesYes, forcesNo, collect, yesForced, noForced}
-use Rattle.step.specs.Meaning.{
-  Question,
-  costOf,
-  sumBelow,
-  setCost,
-  yesGoals,
-  noGoals,
-  goals,
-  goalLiteral,
-  reasonsOn,
-  reasonsOff,
-  againstOn,
-  againstOff,
-  refutes,
-  isCandidate,
-  candidateCost,
-  before,
-  earlier,
-  firstOf,
-  candidate,
-  candidatesFor,
-  candidatesBelow,
-  candidates,
-  theStep,
-  Answer,
-  nothingLeft,
-  step,
-  newOn,
-  newOff,
-  stepFrom,
-  answerFrom,
-  stepOf,
-}
+use Rattle.step.specs.Meaning.{Question, costOf, sumBelow, setCost, yesGoals, noGoals, goals, goalLiteral, reasonsOn, reasonsOff, againstOn, againstOff, refutes, isCandidate, candidateCost, before, earlier, firstOf, candidate, candidatesFor, candidatesBelow, candidates, theStep, nothingLeft, step, newOn, newOff, stepFrom, answerFrom, stepOf}
 
 -- The rules (-1, 5), (2, -5), (-2, -3, 4) over five variables, of which four are choices.
 abbrev problemP : Problem

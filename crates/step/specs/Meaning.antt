@@ -1,7 +1,7 @@
 -- One step (document 01, "One step"): the candidates, what they cost, their order, and the step.
 -- A literal is a variable with a sign, and element v of a mask stands for variable v + 1; a set of literals is two masks: `on` holds the variables
 -- that it says yes of, `off` those that it says no of. Everything is for any number of variables.
-use mathlib.Core.Bool.{Bool, true, false, not, cond, _&&_, _||_}
+use mathlib.Core.Bool.{Bool, true, false, cond, _&&_, _||_}
 use mathlib.Core.List.{List, [], _∷_, _++_}
 use mathlib.Core.Option.{Option, none, some}
 use Prim.Native.Nat.{ℕ, zero, suc, _+_, _*_, _^_}
@@ -84,7 +84,7 @@ module _ (q : Question) where
   unfoldable pub isCandidate : ℕ → ℕ → Bool
   isCandidate v s =
       elim (has goals v) [
-        true ↦ elim (subset s (union (q .known-on) (q .known-off))) [ true ↦ refutes v s | false ↦ false ]
+        | true ↦ elim (subset s (union (q .known-on) (q .known-off))) [ true ↦ refutes v s | false ↦ false ]
         | false ↦ false
       ]
 
@@ -130,7 +130,7 @@ module _ (q : Question) where
   candidatesBelow zero = []
   candidatesBelow (suc v) =
       elim (has (goals q) v) [
-        true ↦ candidatesFor v (2 ^ q .problem .variables) ++ candidatesBelow v
+        | true ↦ candidatesFor v (2 ^ q .problem .variables) ++ candidatesBelow v
         | false ↦ candidatesBelow v
       ]
 

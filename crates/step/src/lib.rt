@@ -1,11 +1,11 @@
 // The next step: the cheapest set of known literals that forces a literal still unknown.
 ghost use mathlib.Core.Path.{_≡_};
-ghost use mathlib.Core.Bool.{not};
-ghost use Prim.Native.Nat.{_+_, _<_, _≤_};
+ghost use Prim.Native.Nat.{_<_, _≤_};
 ghost use Rattle.sets.specs.Sets.{Apart};
 ghost use Rattle.literals.specs.Literal.{variable};
-ghost use Rattle.step.specs.Meaning.{literalOf, stepOf};
-ghost use Rattle.step.specs.Contracts.{literalCost, weightOf, Weighed, keyOf, Small, Against, deniedBy, Exploring, Explored, Branching, question, aimAt, whole, Ready, Found, Reasoned, Learnt, Asked, Taken, answer};
+ghost use Rattle.book.specs.Limits.{maxChoices};
+ghost use Rattle.step.specs.Meaning.{literalOf, step, stepOf};
+ghost use Rattle.step.specs.Contracts.{literalCost, weightOf, Weighed, keyOf, Small, Against, deniedBy, Exploring, Explored, Branching, question, aimAt, whole, Ready, Found, Reasoned, Learnt, Asked, Chosen, stepAt, answer};
 use book::Book;
 use consequence::Consequence;
 use literals::LiteralSet;
@@ -47,6 +47,7 @@ const NONE: u64 = 18446744073709551615;
 
 // What a key has room for: sets below the one, variables below the other.
 const SETS: u64 = 4294967296;
+
 const VARIABLES: u64 = 64;
 
 // The literal over variable v + 1.
@@ -61,7 +62,7 @@ fn literal(v: u32, says: bool) -> i8
 // The cost of a literal over a choice: row by variable, column by sign.
 fn cost_of(costs: [[u16; 2]; Book::MAX_CHOICES], l: i8) -> u16
     requires { ⌜ 0 < variable l ⌝ }
-    requires { ⌜ variable l ≤ 20 ⌝ }
+    requires { ⌜ variable l ≤ maxChoices ⌝ }
     ensures { λ r. ⌜ r ≡ literalCost costs l ⌝ }
 {
     let row = (literals::variable(l) - 1) as usize;
@@ -70,7 +71,7 @@ fn cost_of(costs: [[u16; 2]; Book::MAX_CHOICES], l: i8) -> u16
 
 // The cost of the literal over variable v + 1 that says yes or no.
 fn price(costs: [[u16; 2]; Book::MAX_CHOICES], v: u32, says: bool) -> u16
-    requires { ⌜ v < 20 ⌝ }
+    requires { ⌜ v < maxChoices ⌝ }
     ensures { λ r. ⌜ r ≡ literalCost costs (literalOf v says) ⌝ }
 {
     cost_of(costs, literal(v, says))
@@ -78,7 +79,7 @@ fn price(costs: [[u16; 2]; Book::MAX_CHOICES], v: u32, says: bool) -> u16
 
 // The cost of the known literal over variable v + 1, and 0 where there is none.
 fn weight(costs: [[u16; 2]; Book::MAX_CHOICES], known: LiteralSet, v: u32) -> u16
-    requires { ⌜ v < 20 ⌝ }
+    requires { ⌜ v < maxChoices ⌝ }
     requires { ⌜ Apart (known .yes) (known .no) ⌝ }
     ensures { λ r. ⌜ r ≡ weightOf costs (known .yes) (known .no) v ⌝ }
 {
@@ -158,7 +159,16 @@ fn explore(n: u32, yes: &[u64], no: &[u64], weights: &[u16], aim: Aim, part: Par
 
 // The same where each candidate of the part holds a variable of `witness`: first those with the least such variable,
 // then those without it.
-fn branch(n: u32, yes: &[u64], no: &[u64], weights: &[u16], aim: Aim, part: Part, witness: u64, best: u64) -> u64
+fn branch(
+    n: u32,
+    yes: &[u64],
+    no: &[u64],
+    weights: &[u16],
+    aim: Aim,
+    part: Part,
+    witness: u64,
+    best: u64,
+) -> u64
     requires { ⌜ Branching n (now yes) (now no) (now weights) aim part witness ⌝ }
     ensures { λ r. ⌜ Explored n (now (yes .entry)) (now (no .entry)) (now (weights .entry)) aim part best r ⌝ }
 {
@@ -168,10 +178,12 @@ fn branch(n: u32, yes: &[u64], no: &[u64], weights: &[u16], aim: Aim, part: Part
     }
     let v = sets::lowest(left);
     let at = v as usize;
+    let weight = weights[at] as u64;
+    let cost = part.cost + weight;
     let with = Part {
         chosen: sets::insert(part.chosen, v),
         limit: part.limit,
-        cost: part.cost + weights[at] as u64,
+        cost: cost,
     };
     let found = explore(n, yes, no, weights, aim, with, best);
     let without = Part {
@@ -184,7 +196,7 @@ fn branch(n: u32, yes: &[u64], no: &[u64], weights: &[u16], aim: Aim, part: Part
 
 // The goal over variable v + 1.
 fn aim_at(costs: [[u16; 2]; Book::MAX_CHOICES], known: LiteralSet, v: u32, says: bool) -> Aim
-    requires { ⌜ v < 20 ⌝ }
+    requires { ⌜ v < maxChoices ⌝ }
     ensures { λ r. ⌜ r ≡ aimAt costs known v says ⌝ }
 {
     Aim {
@@ -207,8 +219,16 @@ fn all_sets(aim: Aim) -> Part
     }
 }
 
-// The least key of all candidates. The goals share one bound, lowest variable first.
-fn cheapest(n: u32, yes: &[u64], no: &[u64], costs: [[u16; 2]; Book::MAX_CHOICES], consequence: LiteralSet, known: LiteralSet) -> u64
+// The least key of all candidates. The goals share one bound, lowest variable first. A goal says what the consequence
+// says of its variable.
+fn cheapest(
+    n: u32,
+    yes: &[u64],
+    no: &[u64],
+    costs: [[u16; 2]; Book::MAX_CHOICES],
+    consequence: LiteralSet,
+    known: LiteralSet,
+) -> u64
     requires { ⌜ Ready n (now yes) (now no) costs consequence known ⌝ }
     ensures { λ r. ⌜ Found n (now (yes .entry)) (now (no .entry)) costs consequence known r ⌝ }
 {
@@ -227,7 +247,14 @@ fn cheapest(n: u32, yes: &[u64], no: &[u64], costs: [[u16; 2]; Book::MAX_CHOICES
 }
 
 // The new literals: what the reasons force over choices, less what is known. The reasons have a model.
-fn learn(n: u32, yes: &[u64], no: &[u64], choices: u64, reasons: LiteralSet, known: LiteralSet) -> LiteralSet
+fn learn(
+    n: u32,
+    yes: &[u64],
+    no: &[u64],
+    choices: u64,
+    reasons: LiteralSet,
+    known: LiteralSet,
+) -> LiteralSet
     requires { ⌜ Reasoned n (now yes) (now no) choices reasons ⌝ }
     ensures { λ r. ⌜ Learnt n (now (yes .entry)) (now (no .entry)) choices reasons known r ⌝ }
 {
@@ -245,14 +272,23 @@ fn learn(n: u32, yes: &[u64], no: &[u64], choices: u64, reasons: LiteralSet, kno
 }
 
 // The step that a key stands for.
-fn step_of(n: u32, yes: &[u64], no: &[u64], choices: u64, costs: [[u16; 2]; Book::MAX_CHOICES], consequence: LiteralSet, known: LiteralSet, best: u64) -> Next
-    requires { ⌜ Taken n (now yes) (now no) choices costs consequence known best ⌝ }
-    ensures { λ r. ⌜ r ≡ answer (stepOf (question n (now (yes .entry)) (now (no .entry)) choices costs consequence known)) ⌝ }
+fn step_of(
+    n: u32,
+    yes: &[u64],
+    no: &[u64],
+    choices: u64,
+    consequence: LiteralSet,
+    known: LiteralSet,
+    best: u64,
+) -> Next
+    requires { ⌜ Chosen n (now yes) (now no) choices known best ⌝ }
+    ensures { λ r. ⌜ r ≡ answer (step (stepAt n (now (yes .entry)) (now (no .entry)) choices consequence known best)) ⌝ }
 {
     let set = best % SETS;
     let v = (best / SETS % VARIABLES) as u32;
     let cost = (best / SETS / VARIABLES) as u16;
-    let goal = literal(v, sets::has(consequence.yes, v));
+    let yes_goals = sets::difference(consequence.yes, known.yes);
+    let goal = literal(v, sets::has(yes_goals, v));
     let reasons = LiteralSet {
         yes: sets::intersection(set, known.yes),
         no: sets::intersection(set, known.no),
@@ -267,7 +303,15 @@ fn step_of(n: u32, yes: &[u64], no: &[u64], choices: u64, costs: [[u16; 2]; Book
 }
 
 // The next step.
-pub fn next_step(n: u32, yes: &[u64], no: &[u64], choices: u64, costs: [[u16; 2]; Book::MAX_CHOICES], consequence: LiteralSet, known: LiteralSet) -> Next
+pub fn next_step(
+    n: u32,
+    yes: &[u64],
+    no: &[u64],
+    choices: u64,
+    costs: [[u16; 2]; Book::MAX_CHOICES],
+    consequence: LiteralSet,
+    known: LiteralSet,
+) -> Next
     requires { ⌜ Asked n (now yes) (now no) choices costs consequence known ⌝ }
     ensures { λ r. ⌜ r ≡ answer (stepOf (question n (now (yes .entry)) (now (no .entry)) choices costs consequence known)) ⌝ }
 {
@@ -281,5 +325,5 @@ pub fn next_step(n: u32, yes: &[u64], no: &[u64], choices: u64, costs: [[u16; 2]
     if best == NONE {
         return Next::NoCandidate;
     }
-    step_of(n, yes, no, choices, costs, consequence, known, best)
+    step_of(n, yes, no, choices, consequence, known, best)
 }

@@ -1,3 +1,6 @@
+-- The proof of the cycle of calls {branch, explore}, by the laws of the search. The measure is twice the distance from the chosen set to the
+-- limit, and one more for `explore`: each call adds a variable to the chosen set or takes one from the limit, or goes from `explore` to `branch`.
+-- Assumes nothing.
 use Prim.Native.Nat.{ℕ, _+_, _-_, _*_, _<_}
 use native.Mathlib.Omega.{arith}
 use borrow.Author.Needs.{needs}
@@ -41,11 +44,11 @@ explore-below t = and 3 explore-kinds.ps (falls 3 explore-kinds.ps _<_ μ-explor
 
 -- what the callees of `branch` ask and say
 abbrev branch-claims : ℕ → branch-lts.Claims
-branch-claims t = (intersection-reads.Asked, intersection-reads.Learnt, lowest-reads.Asked, lowest-reads.Learnt, insert-reads.Asked, insert-reads.Learnt, explore-below t, explore.Post, remove-reads.Asked, remove-reads.Learnt, branch-below t, branch.Post,)
+branch-claims t = (intersection-reads.Asked, intersection-reads.Learnt, lowest-reads.Asked, lowest-reads.Learnt, insert-reads.Asked, insert-reads.Learnt, explore-below t, explore.Post, remove-reads.Asked, remove-reads.Learnt, branch-below t, branch.Post)
 
 -- what the callees of `explore` ask and say
 abbrev explore-claims : ℕ → explore-lts.Claims
-explore-claims t = (key-reads.Asked, key-reads.Learnt, against-reads.Asked, against-reads.Learnt, search-reads.Asked, search-reads.Learnt, denied-reads.Asked, denied-reads.Learnt, branch-below t, branch.Post,)
+explore-claims t = (key-reads.Asked, key-reads.Learnt, against-reads.Asked, against-reads.Learnt, search-reads.Asked, search-reads.Learnt, denied-reads.Asked, denied-reads.Learnt, branch-below t, branch.Post)
 
 branch-intersection-requires : (t : ℕ) → branch-lts.Need-intersection-requires (branch-claims t) (branch-at t) branch.Post
 branch-intersection-requires t c κs = search (needs, branch-laws)
@@ -59,25 +62,24 @@ branch-lowest-requires t c κs = search (needs, branch-laws)
 branch-cast-at : (t : ℕ) → branch-lts.Need-cast-at (branch-claims t) (branch-at t) branch.Post
 branch-cast-at t c = search (needs, branch-laws)
 
-branch-insert-requires : (t : ℕ) → branch-lts.Need-insert-requires (branch-claims t) (branch-at t) branch.Post
-branch-insert-requires t c κs = search (needs, branch-laws)
+branch-mul-weight : (t : ℕ) → branch-lts.Need-mul-weight (branch-claims t) (branch-at t) branch.Post
+branch-mul-weight t c = search (needs, branch-laws)
 
-branch-mul-t17 : (t : ℕ) → branch-lts.Need-mul-t17 (branch-claims t) (branch-at t) branch.Post
-branch-mul-t17 t c = search (needs, branch-laws)
+branch-shared-slice-read-weight : (t : ℕ) → branch-lts.Need-shared-slice-read-weight (branch-claims t) (branch-at t) branch.Post
+branch-shared-slice-read-weight t c = branch-member (c .before .before .before .before .before .before .before .pre .1) (c .before .before .before .intersection .ensures) (c .before .lowest .ensures) .weighed
 
-branch-shared-slice-read-t19 : (t : ℕ) → branch-lts.Need-shared-slice-read-t19 (branch-claims t) (branch-at t) branch.Post
-branch-shared-slice-read-t19 t c =
-    branch-member (c .before .before .before .before .before .before .before .before .pre .1) (c .before .before .before .before .intersection .ensures) (c .before .before .lowest .ensures) .weighed
+branch-cast-weight : (t : ℕ) → branch-lts.Need-cast-weight (branch-claims t) (branch-at t) branch.Post
+branch-cast-weight t c =
+    let m = branch-member (c .before .before .before .before .before .before .before .pre .1) (c .before .before .before .intersection .ensures) (c .before .lowest .ensures) in
+    omega (arith, branch-fits (c .before .before .before .before .before .before .before .pre .1) m)
 
-branch-cast-t20 : (t : ℕ) → branch-lts.Need-cast-t20 (branch-claims t) (branch-at t) branch.Post
-branch-cast-t20 t c =
+branch-add-cost : (t : ℕ) → branch-lts.Need-add-cost (branch-claims t) (branch-at t) branch.Post
+branch-add-cost t c =
     let m = branch-member (c .before .before .before .before .before .before .before .before .pre .1) (c .before .before .before .before .intersection .ensures) (c .before .before .lowest .ensures) in
     omega (arith, branch-fits (c .before .before .before .before .before .before .before .before .pre .1) m)
 
-branch-add-t21 : (t : ℕ) → branch-lts.Need-add-t21 (branch-claims t) (branch-at t) branch.Post
-branch-add-t21 t c =
-    let m = branch-member (c .before .before .before .before .before .before .before .before .before .pre .1) (c .before .before .before .before .before .intersection .ensures) (c .before .before .before .lowest .ensures) in
-    omega (arith, branch-fits (c .before .before .before .before .before .before .before .before .before .pre .1) m)
+branch-insert-requires : (t : ℕ) → branch-lts.Need-insert-requires (branch-claims t) (branch-at t) branch.Post
+branch-insert-requires t c κs = search (needs, branch-laws)
 
 branch-explore-requires : (t : ℕ) → branch-lts.Need-explore-requires (branch-claims t) (branch-at t) branch.Post
 branch-explore-requires t c κs = search (needs, branch-laws)
@@ -129,11 +131,11 @@ pub +branch+explore-spec : {M : Type 1} → statement M
     (branch-returns t)
     (branch-lowest-requires t)
     (branch-cast-at t)
+    (branch-mul-weight t)
+    (branch-shared-slice-read-weight t)
+    (branch-cast-weight t)
+    (branch-add-cost t)
     (branch-insert-requires t)
-    (branch-mul-t17 t)
-    (branch-shared-slice-read-t19 t)
-    (branch-cast-t20 t)
-    (branch-add-t21 t)
     (branch-explore-requires t)
     (branch-remove-requires t)
     (branch-branch-requires t)

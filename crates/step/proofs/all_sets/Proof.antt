@@ -1,15 +1,11 @@
+-- `step::all_sets` meets its contract. Assumes nothing.
 use borrow.Author.Needs.{needs}
 use Rattle.step.proofs.all_sets.Statement.{statement}
 use Rattle.step.proofs.all_sets.Tie as tie
-use Rattle.step.proofs.all_sets.Reads as reads
-use Rattle.step.proofs.all_sets.Lts as lts
-use Rattle.sets.proofs.union.Reads as union-reads
 
--- src/lib.rt:205:16
 union-requires : tie.Need-union-requires
 union-requires c κs = search needs
 
--- src/lib.rt:200:1
 returns : tie.Need-returns
 returns c = λ i. record { chosen = 0; limit = c .union .ensures i; cost = c .before .args .aim .cost }
 

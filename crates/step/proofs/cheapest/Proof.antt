@@ -1,19 +1,9 @@
+-- `step::cheapest` meets its contract. Assumes nothing.
 use borrow.Author.Needs.{needs}
 use Rattle.step.specs.Contracts.{Searching}
 use Rattle.step.specs.Laws.Goals.{searching-laws}
 use Rattle.step.proofs.cheapest.Statement.{statement}
 use Rattle.step.proofs.cheapest.Tie as tie
-use Rattle.step.proofs.cheapest.Reads as reads
-use Rattle.step.proofs.cheapest.Lts as lts
-use Rattle.sets.proofs.difference.Reads as difference-reads
-use Rattle.sets.proofs.has.Reads as has-reads
-use Rattle.sets.proofs.lowest.Reads as lowest-reads
-use Rattle.sets.proofs.remove.Reads as remove-reads
-use Rattle.sets.proofs.union.Reads as union-reads
-use Rattle.step.proofs.aim_at.Reads as aim-at-reads
-use Rattle.step.proofs.all_sets.Reads as all-sets-reads
-use Rattle.step.proofs.explore.Reads as explore-reads
-use Rattle.step.proofs.weigh.Reads as weigh-reads
 
 abbrev Inv-loop : tie.InvT-loop
 Inv-loop n yes' no' costs consequence known weights yes-goals no-goals left₀ best₀ left best = Searching n yes' no' costs consequence known left best

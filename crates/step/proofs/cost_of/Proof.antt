@@ -1,3 +1,4 @@
+-- `step::cost_of` meets its contract. Assumes nothing.
 use native.Mathlib.Omega.{arith}
 use borrow.Author.Needs.{needs}
 use mathlib.Core.Path.{_≡_}
@@ -6,11 +7,7 @@ use Rattle.literals.specs.Literal.{variable}
 use Rattle.step.proofs.Signed.{yes-cost, no-cost}
 use Rattle.step.proofs.cost_of.Statement.{statement}
 use Rattle.step.proofs.cost_of.Tie as tie
-use Rattle.step.proofs.cost_of.Reads as reads
-use Rattle.step.proofs.cost_of.Lts as lts
-use Rattle.literals.proofs.variable.Reads as variable-reads
 
--- src/lib.rt:63:16
 -- the variable, as the callee says it
 row : (c : tie.After-variable) → c .variable .result ≡ variable (c .before .args .l)
 row c = rw (toZ-ofZ (c .before .fits .l)) at (c .variable .ensures)
@@ -18,43 +15,33 @@ row c = rw (toZ-ofZ (c .before .fits .l)) at (c .variable .ensures)
 variable-requires : tie.Need-variable-requires
 variable-requires c κs = search needs
 
--- src/lib.rt:63:16
 sub-row : tie.Need-sub-row
 sub-row c = omega (arith, row c)
 
--- src/lib.rt:63:15
 cast-row : tie.Need-cast-row
 cast-row c = search needs
 
--- src/lib.rt:64:16
 mul-result : tie.Need-mul-result
 mul-result c = search needs
 
--- src/lib.rt:64:16
 index-1-result : tie.Need-index-1-result
 index-1-result c = omega (arith, row (c .before))
 
--- src/lib.rt:64:16
 index-2-result : tie.Need-index-2-result
 index-2-result c = search needs
 
--- src/lib.rt:64:39
 mul-result-2 : tie.Need-mul-result-2
 mul-result-2 c = search needs
 
--- src/lib.rt:64:39
 index-1-result-2 : tie.Need-index-1-result-2
 index-1-result-2 c = omega (arith, row (c .before))
 
--- src/lib.rt:64:39
 index-2-result-2 : tie.Need-index-2-result-2
 index-2-result-2 c = search needs
 
--- src/lib.rt:58:1
 returns : tie.Need-returns
 returns c = yes-cost _ _ _ (row (c .before .before)) (c .before .before .before .pre .0) (rw (toZ-ofZ (c .before .before .before .fits .l)) at (c .before .if1 .taken))
 
--- src/lib.rt:58:1
 returns-2 : tie.Need-returns-2
 returns-2 c = no-cost _ _ _ (row (c .before .before)) (c .before .before .before .pre .0) (rw (toZ-ofZ (c .before .before .before .fits .l)) at (c .before .if1 .left))
 

@@ -1,11 +1,8 @@
+-- `step::learn` meets its contract. Assumes nothing.
 use Rattle.step.specs.Laws.Steps.{learn-laws}
 use borrow.Author.Needs.{needs}
 use Rattle.step.proofs.learn.Statement.{statement}
 use Rattle.step.proofs.learn.Tie as tie
-use Rattle.step.proofs.learn.Reads as reads
-use Rattle.step.proofs.learn.Lts as lts
-use Rattle.consequence.proofs.propagate.Reads as propagate-reads
-use Rattle.sets.proofs.difference.Reads as difference-reads
 
 propagate-requires : tie.Need-propagate-requires
 propagate-requires c κs = search needs

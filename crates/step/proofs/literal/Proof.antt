@@ -1,27 +1,21 @@
+-- `step::literal` meets its contract. Assumes nothing.
 use borrow.Author.Needs.{needs}
 use Rattle.step.proofs.Signed.{opposite-fits, yes-literal, no-literal}
 use Rattle.step.proofs.literal.Statement.{statement}
 use Rattle.step.proofs.literal.Tie as tie
-use Rattle.step.proofs.literal.Reads as reads
-use Rattle.step.proofs.literal.Lts as lts
 
--- src/lib.rt:53:14
 add-l : tie.Need-add-l
 add-l c = search needs
 
--- src/lib.rt:53:13
 cast-l : tie.Need-cast-l
 cast-l c = search needs
 
--- src/lib.rt:54:26
 sub-result : tie.Need-sub-result
 sub-result c = opposite-fits _ (c .before .pre)
 
--- src/lib.rt:49:1
 returns : tie.Need-returns
 returns c = yes-literal _ _ (c .before .pre) (c .if1 .taken)
 
--- src/lib.rt:49:1
 returns-2 : tie.Need-returns-2
 returns-2 c = no-literal _ _ (c .before .pre) (c .if1 .left)
 

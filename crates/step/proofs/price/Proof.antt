@@ -1,3 +1,4 @@
+-- `step::price` meets its contract. Assumes nothing.
 use mathlib.Core.Path.{_≡_}
 use native.Mathlib.Omega.{arith}
 use mir.Syntax.{w8}
@@ -7,24 +8,17 @@ use Rattle.step.proofs.Signed.{same-literal, literal-row}
 use borrow.Author.Needs.{needs}
 use Rattle.step.proofs.price.Statement.{statement}
 use Rattle.step.proofs.price.Tie as tie
-use Rattle.step.proofs.price.Reads as reads
-use Rattle.step.proofs.price.Lts as lts
-use Rattle.step.proofs.cost_of.Reads as cost-of-reads
-use Rattle.step.proofs.literal.Reads as literal-reads
 
 -- the literal, as the callee sees it
 handed : (c : tie.After-literal) → toZ w8 (ofZ w8 (c .literal .result)) ≡ literalOf (c .before .args .v) (c .before .args .says)
 handed c = same-literal (c .before .args .v) (c .before .args .says) _ (c .literal .ensures) (omega arith)
 
--- src/lib.rt:72:20
 literal-requires : tie.Need-literal-requires
 literal-requires c κs = search needs
 
--- src/lib.rt:72:5
 cost-of-requires : tie.Need-cost-of-requires
 cost-of-requires c κs = rw (handed c) (literal-row (c .before .args .v) (c .before .args .says) (c .before .pre))
 
--- src/lib.rt:68:1
 returns : tie.Need-returns
 returns c = rw (handed (c .before)) at (c .cost-of .ensures)
 

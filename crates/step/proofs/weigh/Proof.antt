@@ -1,12 +1,10 @@
+-- `step::weigh` meets its contract. Assumes nothing.
 use mathlib.Core.Path.{refl}
 use Prim.Native.Nat.{_-_}
 use borrow.Author.Needs.{needs}
 use Rattle.step.specs.Laws.Costs.{WeighedTo, weighed-none, weighed-more, weighed-all}
 use Rattle.step.proofs.weigh.Statement.{statement}
 use Rattle.step.proofs.weigh.Tie as tie
-use Rattle.step.proofs.weigh.Reads as reads
-use Rattle.step.proofs.weigh.Lts as lts
-use Rattle.step.proofs.weight.Reads as weight-reads
 
 abbrev Inv-loop : tie.InvT-loop
 Inv-loop costs known weights₀ i₀ weights i = WeighedTo costs (known .yes) (known .no) weights i
@@ -14,39 +12,30 @@ Inv-loop costs known weights₀ i₀ weights i = WeighedTo costs (known .yes) (k
 abbrev μ-loop : tie.MeasureT-loop
 μ-loop costs known weights₀ i₀ weights i = 20 - i
 
--- src/lib.rt:89:5
 loop-holds : tie.Need-loop-holds Inv-loop μ-loop
 loop-holds c = weighed-none refl
 
--- src/lib.rt:90:43
 cast-weight : tie.Need-cast-weight Inv-loop μ-loop
 cast-weight c = search needs
 
--- src/lib.rt:90:22
 weight-requires : tie.Need-weight-requires Inv-loop μ-loop
 weight-requires c κs = search needs
 
--- src/lib.rt:90:9
 mul-weights : tie.Need-mul-weights Inv-loop μ-loop
 mul-weights c = search needs
 
--- src/lib.rt:90:9
 array-write-weights : tie.Need-array-write-weights Inv-loop μ-loop
 array-write-weights c = search needs
 
--- src/lib.rt:91:9
 add-i : tie.Need-add-i Inv-loop μ-loop
 add-i c = search needs
 
--- src/lib.rt:89:5
 loop-less : tie.Need-loop-less Inv-loop μ-loop
 loop-less c = search needs
 
--- src/lib.rt:89:5
 loop-again : tie.Need-loop-again Inv-loop μ-loop
 loop-again c = search (needs, weighed-more)
 
--- src/lib.rt:83:1
 returns : tie.Need-returns Inv-loop μ-loop
 returns c = search (needs, weighed-all)
 

@@ -1,17 +1,17 @@
 -- The candidates as a test and as facts, the list of them, and the first. Assumes nothing.
 use mathlib.Core.Path.{_≡_, refl, sym, ap, subst, _∙_}
-use mathlib.Core.Logic.{_⊎_, inl, inr, by-cases}
-use mathlib.Core.Bool.{Bool, true, false, true≢false, false≢true}
-use mathlib.Core.List.{List, [], _∷_, _++_, List·Memᴰ, List·Memᴰ·head, List·Memᴰ·tail, List·Memᴰ·not-nil, List·Memᴰ·cases-cons, List·Memᴰ·append-cases, Memᴰ·append-left, Memᴰ·append-right}
+use mathlib.Core.Logic.{_⊎_, inl, inr}
+use mathlib.Core.Bool.{Bool, true, false, false≢true}
+use mathlib.Core.List.{List, _∷_, _++_, List·Memᴰ, List·Memᴰ·head, List·Memᴰ·tail, List·Memᴰ·not-nil, List·Memᴰ·cases-cons, List·Memᴰ·append-cases, Memᴰ·append-left, Memᴰ·append-right}
 use mathlib.Core.Option.{Option, none, some}
-use Prim.Native.Nat.{ℕ, zero, suc, _^_, _≤_, _<_}
+use Prim.Native.Nat.{ℕ, zero, suc, _^_, _<_}
 use native.Mathlib.Decide.{ℕ-discrete}
 use native.Mathlib.Omega.{arith}
-use Rattle.sets.specs.Sets.{has, union, subset, Within}
+use Rattle.sets.specs.Sets.{has, union, subset}
 use Rattle.sets.specs.Laws.Bits.{member-lt}
 use Rattle.sets.specs.Laws.Subset.{has-true, one-has, subset-within, within-subset, within-le}
 use Rattle.consequence.specs.Laws.{contradicts-none, none-contradicts}
-use Rattle.step.specs.Meaning.{Question, goals, againstOn, againstOff, refutes, isCandidate, candidateCost, Candidate, firstOf, candidate, candidatesFor, candidatesBelow, candidates, theStep}
+use Rattle.step.specs.Meaning.{Question, goals, againstOn, againstOff, refutes, isCandidate, Candidate, firstOf, candidate, candidatesFor, candidatesBelow, candidates, theStep}
 use Rattle.step.specs.Contracts.{Picks}
 use Rattle.step.specs.Laws.Order.{Upto, FirstIn, first-in}
 

@@ -1,7 +1,7 @@
 -- Sums, and what sets cost: one literal more adds its cost, a superset costs at least as much. Assumes nothing.
 use mathlib.Core.Path.{_≡_, refl, sym, ap, ap₂, _∙_}
-use mathlib.Core.Logic.{_≢_, _⊎_, inl, inr, by-cases}
-use mathlib.Core.Bool.{Bool, true, false, not}
+use mathlib.Core.Logic.{_≢_, by-cases}
+use mathlib.Core.Bool.{Bool, true, false}
 use mathlib.Core.List.{List}
 use Prim.Native.Nat.{ℕ, zero, suc, _+_, _*_, _≤_, _<_, min}
 use native.Mathlib.Nat.{mul-le-mul-right, suc-mul}
@@ -9,7 +9,7 @@ use native.Mathlib.Decide.{ℕ-discrete}
 use native.Mathlib.Omega.{arith}
 use lib.ListN.{length, getD, set, length-set}
 use lib.Seq.{getD-set-same, getD-set-other}
-use Rattle.sets.specs.Sets.{bit, has, full, inter, insert, Within, Apart}
+use Rattle.sets.specs.Sets.{bit, has, inter, insert, Within, Apart}
 use Rattle.sets.specs.Laws.Bits.{bit-le, bit-zero, bit-inter, bit-insert-same, bit-insert-other}
 use Rattle.sets.specs.Laws.Subset.{has-true, has-false}
 use Rattle.step.specs.Meaning.{costOf, sumBelow, setCost, literalOf}

@@ -18,7 +18,7 @@ use Rattle.sat.specs.Laws.Assigns.{model-assigned, assigned-model, posed-assign
 use Rattle.sat.specs.Laws.Searches.{searched-first, searched-none}
 use Rattle.sat.specs.declared.Outcome.{Outcome}
 use Rattle.sat.specs.declared.Outcome.the-variants.{Model as Found, Nothing}
-use Rattle.step.specs.Cheapest.{Least, Between, Rises, Hit, within-insert, insert-within, within-remove, remove-within, insert-more, remove-less, prune, hit, no-member, branch-on, hit-rest}
+use Rattle.step.specs.Cheapest.{Least, Between, Rises, Hit, insert-within, within-remove, remove-within, insert-more, remove-less, prune, hit, no-member, branch-on, hit-rest}
 use Rattle.step.specs.Contracts.{total, keyOf, Small, aimOn, aimOff, Against, deniedBy, Refutes, keyAt, Sought, Exploring, Branching, Explored}
 use Rattle.step.specs.Laws.Costs.{total-le, total-insert}
 use Rattle.step.specs.declared.Aim.{Aim}
@@ -26,7 +26,7 @@ use Rattle.step.specs.declared.Part.{Part}
 
 -- ---- the question of the oracle
 
-opposite : (says : Bool) (on off v : ℕ) → Assigned on off v (not says) (cond says on (insert on v)) (cond says (insert off v) off)
+pub opposite : (says : Bool) (on off v : ℕ) → Assigned on off v (not says) (cond says on (insert on v)) (cond says (insert off v) off)
 opposite true on off v = record { said = (refl, refl) }
 opposite false on off v = record { said = (refl, refl) }
 

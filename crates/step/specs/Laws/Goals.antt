@@ -1,12 +1,12 @@
 -- The search over all goals: a law for each step of the code, and that the least key is the step. Assumes nothing.
 use mathlib.Core.Path.{_≡_, refl, sym, ap, ap₂, subst, _∙_}
-use mathlib.Core.Logic.{_≢_, _⊎_, inl, inr, by-cases}
-use mathlib.Core.Bool.{Bool, true, false, not, cond, true≢false, false≢true}
+use mathlib.Core.Logic.{_⊎_, inl, inr, by-cases}
+use mathlib.Core.Bool.{Bool, true, false, not, cond}
 use mathlib.Core.List.{List}
-use Prim.Native.Nat.{ℕ, zero, suc, _+_, _-_, _*_, _^_, _≤_, _<_, max}
+use Prim.Native.Nat.{ℕ, _+_, _-_, _*_, _^_, _≤_, _<_, max}
 use native.Mathlib.Decide.{ℕ-discrete, decLt}
 use native.Mathlib.Omega.{arith}
-use lib.ListN.{length, getD, List·getD-eq-default}
+use lib.ListN.{getD, List·getD-eq-default}
 use Rattle.sets.specs.Sets.{bit, has, full, union, inter, diff, insert, remove, Within, Apart, Lowest}
 use Rattle.sets.specs.Laws.Bits.{bit-le, bit-zero, bit-high, bit-union, bit-diff, bit-remove-same, bit-remove-other, union-lt, member-lt}
 use Rattle.sets.specs.Laws.Subset.{has-true, has-false, one-has, zero-has, within-refl, within-le, within-trans}
@@ -24,7 +24,7 @@ use Rattle.step.specs.Laws.Costs.{one-cost, set-bound, total-zero, total
 abbrev pub openGoals : LiteralSet → LiteralSet → ℕ
 openGoals c k = union (diff (c .yes) (k .yes)) (diff (c .no) (k .no))
 
-cond-not : (a : Bool) (x y : ℕ) → cond (not a) x y ≡ cond a y x
+pub cond-not : (a : Bool) (x y : ℕ) → cond (not a) x y ≡ cond a y x
 cond-not true x y = refl
 cond-not false x y = refl
 
@@ -54,6 +54,16 @@ pub record Open (n : ℕ) (c k : LiteralSet) (v : ℕ) : Type 0 where
   pub signed : has (diff (c .no) (k .no)) v ≡ not (has (diff (c .yes) (k .yes)) v)
   pub says : has (c .yes) v ≡ has (diff (c .yes) (k .yes)) v
 
+-- where the consequence says yes or no, a goal does
+pub sign-of : (on off a b v : ℕ) → bit on v + bit off v ≤ 1 → bit (union (diff on a) (diff off b)) v ≡ 1 → has (diff off b) v ≡ not (has (diff on a) v)
+sign-of on off a b v h e = go (has (diff on a) v) refl
+  where
+    go : (s : Bool) → has (diff on a) v ≡ s → has (diff off b) v ≡ not s
+    go true p = zero-has (diff off b) v (omega (arith, has-true (diff on a) v p, bit-diff on a v, bit-diff off b v))
+    go false p =
+        one-has (diff off b) v
+        (omega (arith, e, has-false (diff on a) v p, bit-union (diff on a) (diff off b) v, bit-le (diff off b) v))
+
 goal-at : (c k : LiteralSet) (v : ℕ) → bit (openGoals c k) v ≡ max (bit (c .yes) v - bit (k .yes) v) (bit (c .no) v - bit (k .no) v)
 goal-at c k v = omega (arith, bit-union (diff (c .yes) (k .yes)) (diff (c .no) (k .no)) v, bit-diff (c .yes) (k .yes) v, bit-diff (c .no) (k .no) v)
 
@@ -66,7 +76,7 @@ module _ {n : ℕ} {ys ns : List ℕ} {table : List (List ℕ)} {c k : LiteralSe
         not-off = omega (arith, goal-at c k v, x .known-yes .keeps v, x .known-no .keeps v, x .posed .apart .avoids v, bit-le (c .yes) v, bit-le (c .no) v);
         below = member-lt n (union (c .yes) (c .no)) v in-both (union-lt n (c .yes) (c .no) (x .posed .on-below) (x .posed .off-below));
         row = member-lt 20 (union (c .yes) (c .no)) v in-both (x .rows);
-        signed = sign (has (diff (c .yes) (k .yes)) v) refl;
+        signed = sign-of (c .yes) (c .no) (k .yes) (k .no) v (x .posed .apart .avoids v) e;
         says = same (has (diff (c .yes) (k .yes)) v) refl;
       }
     where
@@ -79,20 +89,6 @@ module _ {n : ℕ} {ys ns : List ℕ} {table : List (List ℕ)} {c k : LiteralSe
 
       in-both : bit (union (c .yes) (c .no)) v ≡ 1
       in-both = omega (arith, goal-at c k v, bit-union (c .yes) (c .no) v, bit-le (c .yes) v, bit-le (c .no) v)
-
-      sign : (b : Bool) → has (diff (c .yes) (k .yes)) v ≡ b → has (diff (c .no) (k .no)) v ≡ not b
-      sign true p =
-          zero-has (diff (c .no) (k .no)) v
-          (omega (arith, has-true (diff (c .yes) (k .yes)) v p, bit-diff (c .yes) (k .yes) v, bit-diff (c .no) (k .no) v, x .posed .apart .avoids v))
-      sign false p =
-          one-has (diff (c .no) (k .no)) v
-          (omega (
-            arith,
-            e,
-            has-false (diff (c .yes) (k .yes)) v p,
-            bit-union (diff (c .yes) (k .yes)) (diff (c .no) (k .no)) v,
-            bit-le (diff (c .no) (k .no)) v,
-          ))
 
   pub known-posed : Posed n ys ns (k .yes) (k .no)
   known-posed =

@@ -1,36 +1,34 @@
 -- The least key is the step: the answer in each case. Assumes nothing.
 use mathlib.Core.Path.{_≡_, refl, sym, ap, ap₂, subst, _∙_}
-use mathlib.Core.Logic.{_⊎_, inl, inr}
 use mathlib.Core.Bool.{Bool, true, false, true≢false, false≢true}
 use mathlib.Core.List.{List}
 use mathlib.Core.Option.{Option, none, some}
-use Prim.Native.Nat.{ℕ, _/_, _%_, _^_, _≤_, _<_}
+use Prim.Native.Nat.{ℕ, _/_, _%_, _≤_}
 use native.Mathlib.Omega.{arith}
 use lib.Dec.{eqb}
 use borrow.Author.Tests.{eq-eqb, ne-eqb}
-use Rattle.sets.specs.Sets.{bit, has, union, inter, diff, Within}
+use Rattle.sets.specs.Sets.{bit, has, union, inter, diff}
 use Rattle.sets.specs.Laws.Bits.{bit-inter, bit-union, union-lt, diff-lt, pos-of-member}
-use Rattle.sets.specs.Laws.Subset.{within-le, within-trans}
+use Rattle.sets.specs.Laws.Subset.{within-le}
 use Rattle.literals.specs.Literal.{Literal}
 use Rattle.literals.specs.declared.LiteralSet.{LiteralSet}
 use Rattle.sat.specs.Meaning.{Model}
-use Rattle.sat.specs.Contracts.{Posed}
 use Rattle.consequence.specs.Meaning.{contradicts, yesForced, noForced}
 use Rattle.consequence.specs.Contracts.{problem, Concluded}
 use Rattle.consequence.specs.Laws.{model-contradicts}
 use Rattle.consequence.specs.declared.Consequence.{Consequence}
 use Rattle.consequence.specs.declared.Consequence.the-variants.{NoModel as Contradiction, Forced}
-use Rattle.step.specs.Meaning.{Question, literalOf, yesGoals, noGoals, goals, goalLiteral, reasonsOn, reasonsOff, candidateCost, Candidate, candidate, theStep, Answer, nothingLeft, noCandidate, step, newOn, newOff, stepFrom, answerFrom, stepOf}
-use Rattle.step.specs.Cheapest.{Least, least-some}
-use Rattle.step.specs.Contracts.{keyOf, Small, question, Ready, Picks, Pair, pairKey, Picked, noKey, Found, Reasoned, Learnt, Asked, Taken, answer}
-use Rattle.step.specs.Laws.Order.{key, Upto, upto-key, Decoded, decode, key-below}
+use Rattle.step.specs.Meaning.{Question, literalOf, yesGoals, noGoals, goals, goalLiteral, reasonsOn, reasonsOff, candidateCost, Candidate, candidate, theStep, nothingLeft, step, newOn, newOff, stepFrom, answerFrom, stepOf}
+use Rattle.step.specs.Cheapest.{least-some}
+use Rattle.step.specs.Contracts.{keyOf, Small, question, Ready, Picks, Pair, pairKey, noKey, Found, Reasoned, Learnt, Asked, Chosen, stepAt, answer}
+use Rattle.step.specs.Laws.Order.{upto-key, Decoded, decode, key-below}
 use Rattle.step.specs.Laws.Explores.{reasons-posed}
-use Rattle.step.specs.Laws.Candidates.{Listed, Sized, Stepped, TheStep, the-step}
-use Rattle.step.specs.Laws.Goals.{openGoals, goal-open, known-posed, against-small}
+use Rattle.step.specs.Laws.Candidates.{Sized, TheStep, the-step}
+use Rattle.step.specs.Laws.Goals.{goal-open, known-posed, against-small}
 use Rattle.step.specs.declared.Next.{Next}
 
 -- The candidate that a key stands for is the step.
-pub record Chosen (q : Question) (best : ℕ) : Type 0 where
+pub record Picked (q : Question) (best : ℕ) : Type 0 where
   pub picks : Picks q (best / 4294967296 % 64) (best % 4294967296)
   pub taken : theStep q ≡ some (candidate q (best / 4294967296 % 64) (best % 4294967296))
   pub costs : candidateCost q (best / 4294967296 % 64) (best % 4294967296) ≡ best / 4294967296 / 64
@@ -84,17 +82,17 @@ module _ {n : ℕ} {ys ns : List ℕ} {table : List (List ℕ)} {c k : LiteralSe
 
   -- ---- the candidate that a key stands for
 
-  pub some-found : {best : ℕ} → Found n ys ns table c k best → (best ≡ noKey → ⊥) → Chosen (question n ys ns ch table c k) best
+  pub some-found : {best : ℕ} → Found n ys ns table c k best → (best ≡ noKey → ⊥) → Picked (question n ys ns ch table c k) best
   unfolding candidate
   some-found {best} f ne = go (theStep q) refl (the-step q ready-sized)
     where
       q : Question
       q = question n ys ns ch table c k
 
-      least : (t : Pair) × Picked q t × (best ≡ pairKey q t)
+      least : (t : Pair) × Picks q (t .goal) (t .set) × (best ≡ pairKey q t)
       least = least-some (f .cheapest ch) ne
 
-      go : (o : Option Candidate) → theStep q ≡ o → TheStep q o → Chosen q best
+      go : (o : Option Candidate) → theStep q ≡ o → TheStep q o → Picked q best
       go none e t = absurd (t (least .0 .goal) (least .0 .set) (least .1))
       go (some d) e t =
           record {
@@ -145,7 +143,7 @@ module _ {n : ℕ} {ys ns : List ℕ} {ch : ℕ} {reasons k : LiteralSet} {o : C
 
 -- ---- the answers
 
-step-left : (q : Question) → goals q ≡ 0 → stepOf q ≡ nothingLeft
+pub step-left : (q : Question) → goals q ≡ 0 → stepOf q ≡ nothingLeft
 unfolding stepOf
 step-left q e = go (eqb (goals q) 0) (eq-eqb (goals q) 0 e)
   where
@@ -153,7 +151,7 @@ step-left q e = go (eqb (goals q) 0) (eq-eqb (goals q) 0 e)
     go true d = refl
     go false d = absurd (false≢true d)
 
-step-open : (q : Question) → (goals q ≡ 0 → ⊥) → stepOf q ≡ answerFrom q (theStep q)
+pub step-open : (q : Question) → (goals q ≡ 0 → ⊥) → stepOf q ≡ answerFrom q (theStep q)
 unfolding stepOf
 step-open q e = go (eqb (goals q) 0) (ne-eqb (goals q) 0 e)
   where
@@ -175,63 +173,80 @@ module _ {n : ℕ} {ys ns : List ℕ} {ch : ℕ} {table : List (List ℕ)} {c k 
       sym (ap answer (step-open (question n ys ns ch table c k) (λ z. ne (e ∙ ap₂ (λ (u : ℕ) (v : ℕ). union u v) p q ∙ z))
       ∙ ap (answerFrom (question n ys ns ch table c k)) (none-found ch (asked-ready a) f d)))
 
-  pub answer-taken : {best : ℕ} → Asked n ys ns ch table c k → Found n ys ns table c k best → (best ≡ noKey → ⊥) → Taken n ys ns ch table c k best
-  answer-taken a f d = record { asked = a; found = f; some = d }
+  -- the candidate that the least key stands for
+  module _ {best : ℕ} (a : Asked n ys ns ch table c k) (f : Found n ys ns table c k best) (e : best ≡ noKey → ⊥) where
+    picked : Picked (question n ys ns ch table c k) best
+    picked = some-found ch (asked-ready a) f e
 
-  module _ {best : ℕ} (x : Taken n ys ns ch table c k best) where
-    chosen : Chosen (question n ys ns ch table c k) best
-    chosen = some-found ch (asked-ready (x .asked)) (x .found) (x .some)
-
-    pub taken-cost : best / 4294967296 / 64 < 65536
-    taken-cost =
-        omega (arith, chosen .costs, picks-small ch (asked-ready (x .asked)) _ _ (chosen .picks) .cost-small)
-
-    pub taken-reasons : {a b : ℕ} → a ≡ inter (best % 4294967296) (k .yes) → b ≡ inter (best % 4294967296) (k .no)
-        → Reasoned n ys ns ch (record { yes = a; no = b })
-    taken-reasons p q =
-        rw (p, q)
-        (record {
-          posed = reasons-posed (best % 4294967296) (known-posed (asked-ready (x .asked)));
-          short = x .asked .short;
-          choices-below = x .asked .choices-below;
-          model = (x .asked .model .0, record {
-            below = x .asked .model .1 .below;
-            keeps = record { keeps = λ v. omega (arith, bit-inter (best % 4294967296) (k .yes) v, x .asked .known-yes .keeps v, x .asked .model .1 .keeps .keeps v) };
-            avoids = record { avoids = λ v. omega (arith, bit-inter (best % 4294967296) (k .no) v, x .asked .known-no .keeps v, x .asked .model .1 .avoids .avoids v) };
-            obeyed = x .asked .model .1 .obeyed;
-          });
-        })
-
-    pub taken-step : {a b : ℕ} {says : Bool} {l : Literal} {new : LiteralSet} → says ≡ has (c .yes) (best / 4294967296 % 64)
-        → l ≡ literalOf (best / 4294967296 % 64) says → a ≡ inter (best % 4294967296) (k .yes) → b ≡ inter (best % 4294967296) (k .no)
-        → Learnt n ys ns ch (record { yes = a; no = b }) k new
-        → Next.Step l (record { yes = a; no = b }) new (best / 4294967296 / 64) ≡ answer (stepOf (question n ys ns ch table c k))
-    unfolding answerFrom stepFrom candidate goalLiteral reasonsOn reasonsOff newOn newOff goals yesGoals noGoals
-    taken-step {a} {b} {says} {l} {new} q e s t w = mine ∙ sym (ap answer theirs)
+    pub answer-chosen : Chosen n ys ns ch k best
+    answer-chosen =
+        record {
+          reasoned = record {
+            posed = reasons-posed s (known-posed (asked-ready a));
+            short = a .short;
+            choices-below = a .choices-below;
+            model = (
+              a .model .0,
+              record {
+                below = m .below;
+                keeps = record { keeps = λ v. omega (arith, bit-inter s (k .yes) v, a .known-yes .keeps v, m .keeps .keeps v) };
+                avoids = record { avoids = λ v. omega (arith, bit-inter s (k .no) v, a .known-no .keeps v, m .avoids .avoids v) };
+                obeyed = m .obeyed;
+              },
+            );
+          };
+          cheap = omega (arith, picked .costs, picks-small ch (asked-ready a) _ _ (picked .picks) .cost-small);
+        }
       where
-        qn : Question
-        qn = question n ys ns ch table c k
+        s : ℕ
+        s = best % 4294967296
 
-        goal-is : l ≡ goalLiteral qn (best / 4294967296 % 64)
-        goal-is = e ∙ ap (literalOf (best / 4294967296 % 64)) (q ∙ goal-open (asked-ready (x .asked)) _ (chosen .picks .goal) .says)
+        m : Model n ys ns (c .yes) (c .no) (a .model .0)
+        m = a .model .1
 
-        yes-is : new .yes ≡ newOn qn (best % 4294967296)
-        yes-is = w .yes-new ∙ ap₂ (λ (u : ℕ) (v : ℕ). diff (yesForced (problem n ys ns ch) u v) (k .yes)) s t
+    pub answer-step : {r : Next} → r ≡ answer (step (stepAt n ys ns ch c k best)) → r ≡ answer (stepOf (question n ys ns ch table c k))
+    unfolding answerFrom stepFrom candidate goalLiteral reasonsOn reasonsOff newOn newOff yesGoals
+    answer-step p = p ∙ sym (ap answer theirs)
+      where
+        q : Question
+        q = question n ys ns ch table c k
 
-        no-is : new .no ≡ newOff qn (best % 4294967296)
-        no-is = w .no-new ∙ ap₂ (λ (u : ℕ) (v : ℕ). diff (noForced (problem n ys ns ch) u v) (k .no)) s t
+        same : candidate q (best / 4294967296 % 64) (best % 4294967296)
+            ≡ record { cost = best / 4294967296 / 64; goal = best / 4294967296 % 64; reasons = best % 4294967296 }
+        same = λ i. record { cost = picked .costs i; goal = best / 4294967296 % 64; reasons = best % 4294967296 }
 
-        theirs : stepOf qn ≡ step (stepFrom qn (candidate qn (best / 4294967296 % 64) (best % 4294967296)))
+        theirs : stepOf q ≡ step (stepAt n ys ns ch c k best)
         theirs =
-            step-open qn (λ z. omega (arith, z, pos-of-member (goals qn) _ (chosen .picks .goal)))
-            ∙ ap (answerFrom qn) (chosen .taken)
+            step-open q (λ z. omega (arith, z, pos-of-member (goals q) _ (picked .picks .goal)))
+            ∙ ap (answerFrom q) (picked .taken)
+            ∙ ap (λ (d : Candidate). step (stepFrom q d)) same
 
-        mine : Next.Step l (record { yes = a; no = b }) new (best / 4294967296 / 64)
-            ≡ answer (step (stepFrom qn (candidate qn (best / 4294967296 % 64) (best % 4294967296))))
-        mine = λ i. Next.Step (goal-is i) (record { yes = s i; no = t i }) (record { yes = yes-is i; no = no-is i }) (sym (chosen .costs) i)
+-- ---- `step_of`
+
+module _ {n : ℕ} {ys ns : List ℕ} {ch best : ℕ} {k : LiteralSet} (x : Chosen n ys ns ch k best) where
+  pub chosen-reasons : {a b : ℕ} → a ≡ inter (best % 4294967296) (k .yes) → b ≡ inter (best % 4294967296) (k .no)
+      → Reasoned n ys ns ch (record { yes = a; no = b })
+  chosen-reasons p q = rw (p, q) (x .reasoned)
+
+  pub chosen-step : (c : LiteralSet) {d a b : ℕ} {says : Bool} {l : Literal} {new : LiteralSet} → d ≡ diff (c .yes) (k .yes)
+      → says ≡ has d (best / 4294967296 % 64) → l ≡ literalOf (best / 4294967296 % 64) says → a ≡ inter (best % 4294967296) (k .yes)
+      → b ≡ inter (best % 4294967296) (k .no) → Learnt n ys ns ch (record { yes = a; no = b }) k new
+      → Next.Step l (record { yes = a; no = b }) new (best / 4294967296 / 64) ≡ answer (step (stepAt n ys ns ch c k best))
+  unfolding stepFrom goalLiteral reasonsOn reasonsOff newOn newOff yesGoals
+  chosen-step c {d} {a} {b} {says} {l} {new} p q e s t w =
+      λ i. Next.Step (goal-is i) (record { yes = s i; no = t i }) (record { yes = yes-is i; no = no-is i }) (best / 4294967296 / 64)
+    where
+      goal-is : l ≡ literalOf (best / 4294967296 % 64) (has (diff (c .yes) (k .yes)) (best / 4294967296 % 64))
+      goal-is = e ∙ ap (literalOf (best / 4294967296 % 64)) (q ∙ ap (λ (m : ℕ). has m (best / 4294967296 % 64)) p)
+
+      yes-is : new .yes ≡ diff (yesForced (problem n ys ns ch) (inter (best % 4294967296) (k .yes)) (inter (best % 4294967296) (k .no))) (k .yes)
+      yes-is = w .yes-new ∙ ap₂ (λ (u : ℕ) (v : ℕ). diff (yesForced (problem n ys ns ch) u v) (k .yes)) s t
+
+      no-is : new .no ≡ diff (noForced (problem n ys ns ch) (inter (best % 4294967296) (k .yes)) (inter (best % 4294967296) (k .no))) (k .no)
+      no-is = w .no-new ∙ ap₂ (λ (u : ℕ) (v : ℕ). diff (noForced (problem n ys ns ch) u v) (k .no)) s t
 
 pub ruleset learn-laws = (learn-absurd, learnt)
 
-pub ruleset step-laws = (taken-cost, taken-reasons, taken-step)
+pub ruleset step-laws = (chosen-reasons, chosen-step)
 
-pub ruleset answer-laws = (asked-ready, answer-nothing, answer-none, answer-taken)
+pub ruleset answer-laws = (asked-ready, answer-nothing, answer-none, answer-chosen, answer-step)

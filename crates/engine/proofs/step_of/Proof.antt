@@ -1,0 +1,74 @@
+use mathlib.Core.Path.{_≡_, refl, sym, ap, _∙_}
+use mathlib.Core.Bool.{true, false}
+use Rattle.consequence.specs.Meaning.{contradicts}
+use Rattle.engine.specs.Contracts.{problemIn, forcedIn, stepIn}
+use Rattle.engine.proofs.StepLaws.{found-nine, found-set, stepping, between-no, between-yes}
+use borrow.Author.Needs.{needs}
+use Rattle.engine.proofs.step_of.Statement.{statement}
+use Rattle.engine.proofs.step_of.Tie as tie
+use Rattle.engine.proofs.step_of.Reads as reads
+use Rattle.engine.proofs.step_of.Lts as lts
+use Rattle.engine.proofs.lies_between.Reads as lies-between-reads
+use Rattle.engine.proofs.propagate.Reads as propagate-reads
+use Rattle.engine.proofs.take_step.Reads as take-step-reads
+
+-- what the given facts force, and where the known set lies
+found : (c : tie.After-known-told2) → (contradicts (problemIn (c .before .before .before .before .args .p)) (c .before .before .before .before .args .p .facts .yes) (c .before .before .before .before .args .p .facts .no) ≡ false) × (c .before .forced .given .0 .0 ≡ forcedIn (c .before .before .before .before .args .p))
+found c = found-set _ (c .before .before .before .propagate .ensures) (c .before .forced .given .1)
+
+-- src/lib.rt:187:11
+propagate-requires : tie.Need-propagate-requires
+propagate-requires c κs = c .pre .posable
+
+-- src/lib.rt:188:38
+enum-known-number : tie.Need-enum-known-number
+enum-known-number c = search needs
+
+-- src/lib.rt:189:35
+enum-known-forced : tie.Need-enum-known-forced
+enum-known-forced c = search needs
+
+-- src/lib.rt:190:17
+lies-between-requires : tie.Need-lies-between-requires
+lies-between-requires c κs = search needs
+
+-- src/lib.rt:191:17
+returns : tie.Need-returns
+unfolding stepIn
+returns c =
+    let f = found (c .before .before) in
+    let t = (rw (f .1) at (c .before .lies-between .ensures)) in
+    rw (f .0, between-no _ _ _ t (c .if1 .taken)) refl
+
+-- src/lib.rt:196:13
+take-step-requires : tie.Need-take-step-requires
+take-step-requires c κs =
+    let f = found (c .before .before) in
+    rw (f .1) (stepping _ _ (c .before .before .before .before .before .before .pre) (f .0) _ (between-yes _ _ _ (rw (f .1) at (c .before .lies-between .ensures)) (c .if1 .left)))
+
+-- src/lib.rt:183:1
+returns-2 : tie.Need-returns-2
+unfolding stepIn
+returns-2 c =
+    let n = found-nine _ (c .before .before .before .propagate .ensures) (c .before .number .given .1) in
+    rw (n .2, n .0, n .1) refl
+
+-- src/lib.rt:183:1
+returns-3 : tie.Need-returns-3
+unfolding stepIn
+returns-3 c =
+    let f = found (c .before .before .before) in
+    rw (f .0, between-yes _ _ _ (rw (f .1) at (c .before .before .lies-between .ensures)) (c .before .if1 .left)) (rw (f .1) at (c .take-step .ensures))
+
+pub step-of-spec : {M : Type 1} → statement M
+step-of-spec =
+    tie.close
+    (tie.spec
+    propagate-requires
+    enum-known-number
+    enum-known-forced
+    lies-between-requires
+    returns
+    take-step-requires
+    returns-2
+    returns-3)
