@@ -12,6 +12,7 @@ use mir.Syntax.{w8}
 use mir.Val.{SFits, toZ, ofZ}
 use mir.Facts.{toZ-pos, toZ-ofZ}
 use Rattle.literals.specs.Literal.{variable}
+use Rattle.book.specs.Limits.{maxChoices}
 use Rattle.step.specs.Meaning.{costOf, literalOf}
 use Rattle.step.specs.Contracts.{literalCost}
 
@@ -56,7 +57,7 @@ same-literal v says l e h = rw e (go says)
     go true = toZ-ofZ {w = w8} {z = pos (suc v)} (record { sfits = omega arith })
     go false = toZ-ofZ {w = w8} {z = negsuc v} (record { sfits = omega arith })
 
-pub literal-row : (v : ℕ) (says : Bool) → v < 20 → (0 < variable (literalOf v says)) × (variable (literalOf v says) ≤ 20)
+pub literal-row : (v : ℕ) (says : Bool) → v < maxChoices → (0 < variable (literalOf v says)) × (variable (literalOf v says) ≤ maxChoices)
 unfolding variable
 literal-row v true h = (omega arith, omega arith)
 literal-row v false h = (omega arith, omega arith)

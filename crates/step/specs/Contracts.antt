@@ -42,14 +42,28 @@ total ws n s = sumBelow n (λ v. bit s v * getD ws v 0)
 
 -- ---- the order as one number
 
-abbrev pub keyOf : ℕ → ℕ → ℕ → ℕ
-keyOf cost goal s = (cost * 64 + goal) * 4294967296 + s
+-- What a key of 64 bits has room for: costs, variables of goals, and sets.
+abbrev pub costRoom : ℕ
+costRoom = 65536
 
--- What a key of 64 bits has room for, so that it is below that of no candidate.
+abbrev pub goalRoom : ℕ
+goalRoom = 64
+
+abbrev pub setRoom : ℕ
+setRoom = 4294967296
+
+-- The key of no candidate.
+abbrev pub noKey : ℕ
+noKey = 18446744073709551615
+
+abbrev pub keyOf : ℕ → ℕ → ℕ → ℕ
+keyOf cost goal s = (cost * goalRoom + goal) * setRoom + s
+
+-- There is room, so that the key is below that of no candidate.
 pub record Small (cost goal s : ℕ) : Type 0 where
-  pub cost-small : cost < 65536
-  pub goal-small : goal < 64
-  pub set-small : s < 4294967296
+  pub cost-small : cost < costRoom
+  pub goal-small : goal < goalRoom
+  pub set-small : s < setRoom
 
 -- ---- the search for one goal
 
@@ -79,12 +93,12 @@ keyAt n ws aim s = keyOf (aim .cost + total ws n s) (aim .goal) s
 -- Rules, known literals, their weights and a goal that is not known.
 pub record Sought (n : ℕ) (ys ns ws : List ℕ) (aim : Aim) : Type 0 where
   pub posed : Posed n ys ns (aim .on) (aim .off)
-  pub few : n ≤ maxVariables
   pub goal-below : aim .goal < n
   pub not-on : bit (aim .on) (aim .goal) ≡ 0
   pub not-off : bit (aim .off) (aim .goal) ≡ 0
+  pub rows : length ws ≤ maxChoices
   pub weighed : union (aim .on) (aim .off) < 2 ^ length ws
-  pub cheap : aim .cost + total ws n (full n) < 65536
+  pub cheap : aim .cost + total ws n (full n) < costRoom
 
 pub record Exploring (n : ℕ) (ys ns ws : List ℕ) (aim : Aim) (part : Part) : Type 0 where
   pub sought : Sought n ys ns ws aim
@@ -150,10 +164,6 @@ pairKey q x = keyOf (candidateCost q (x .goal) (x .set)) (x .goal) (x .set)
 abbrev pub Picked : Question → Pair → Type 0
 Picked q x = Picks q (x .goal) (x .set)
 
--- The key of no candidate.
-abbrev pub noKey : ℕ
-noKey = 18446744073709551615
-
 -- r is the least key of all candidates. The choices do not matter to it.
 pub record Found (n : ℕ) (ys ns : List ℕ) (table : List (List ℕ)) (c k : LiteralSet) (r : ℕ) : Type 0 where
   pub cheapest : (ch : ℕ) → Least (Picked (question n ys ns ch table c k)) (pairKey (question n ys ns ch table c k)) noKey r
@@ -196,16 +206,16 @@ pub record Asked (n : ℕ) (ys ns : List ℕ) (ch : ℕ) (table : List (List ℕ
   pub model : (f : ℕ) × Model n ys ns (c .yes) (c .no) f
   pub cheap : (v column : ℕ) → costOf table v column ≤ maxCost
 
--- The key of a candidate whose reasons have a model.
+-- A key whose cost fits, and what is known, which some filling makes true with the rules.
 pub record Chosen (n : ℕ) (ys ns : List ℕ) (ch : ℕ) (k : LiteralSet) (best : ℕ) : Type 0 where
-  pub reasoned : Reasoned n ys ns ch (record { yes = inter (best % 4294967296) (k .yes); no = inter (best % 4294967296) (k .no) })
-  pub cheap : best / 4294967296 / 64 < 65536
+  pub known : Reasoned n ys ns ch k
+  pub cheap : best / setRoom / goalRoom < costRoom
 
 -- The step that a key stands for. The costs do not matter to it.
 abbrev pub stepAt : ℕ → List ℕ → List ℕ → ℕ → LiteralSet → LiteralSet → ℕ → Step
 stepAt n ys ns ch c k best =
     stepFrom (question n ys ns ch [] c k)
-    (record { cost = best / 4294967296 / 64; goal = best / 4294967296 % 64; reasons = best % 4294967296 })
+    (record { cost = best / setRoom / goalRoom; goal = best / setRoom % goalRoom; reasons = best % setRoom })
 
 -- The answer for each case.
 abbrev pub answer : Answer → Next

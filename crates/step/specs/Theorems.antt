@@ -78,7 +78,9 @@ abbrev pub Gained : Step → ℕ → Bool → Type 0
 Gained s v true = bit (s .new-on) v ≡ 1
 Gained s v false = bit (s .new-off) v ≡ 1
 
+-- The step: the first candidate in the order, and what its reasons force beyond K.
 pub record IsStep (q : Question) (s : Step) : Type 0 where
+  -- the goal's variable, less 1, and what it says of it
   pub variable : ℕ
   pub says : Bool
   pub goal-said : s .goal ≡ literalOf variable says

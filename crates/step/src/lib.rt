@@ -199,12 +199,13 @@ fn aim_at(costs: [[u16; 2]; Book::MAX_CHOICES], known: LiteralSet, v: u32, says:
     requires { ⌜ v < maxChoices ⌝ }
     ensures { λ r. ⌜ r ≡ aimAt costs known v says ⌝ }
 {
+    let cost = price(costs, v, !says) as u64;
     Aim {
         goal: v,
         says: says,
         on: known.yes,
         off: known.no,
-        cost: price(costs, v, !says) as u64,
+        cost: cost,
     }
 }
 

@@ -2,6 +2,7 @@
 use mathlib.Core.Path.{refl}
 use Prim.Native.Nat.{_-_}
 use borrow.Author.Needs.{needs}
+use Rattle.book.specs.Limits.{maxChoices}
 use Rattle.step.specs.Laws.Costs.{WeighedTo, weighed-none, weighed-more, weighed-all}
 use Rattle.step.proofs.weigh.Statement.{statement}
 use Rattle.step.proofs.weigh.Tie as tie
@@ -10,7 +11,7 @@ abbrev Inv-loop : tie.InvT-loop
 Inv-loop costs known weights₀ i₀ weights i = WeighedTo costs (known .yes) (known .no) weights i
 
 abbrev μ-loop : tie.MeasureT-loop
-μ-loop costs known weights₀ i₀ weights i = 20 - i
+μ-loop costs known weights₀ i₀ weights i = maxChoices - i
 
 loop-holds : tie.Need-loop-holds Inv-loop μ-loop
 loop-holds c = weighed-none refl

@@ -12,6 +12,7 @@ use lib.Seq.{getD-set-same, getD-set-other}
 use Rattle.sets.specs.Sets.{bit, has, inter, insert, Within, Apart}
 use Rattle.sets.specs.Laws.Bits.{bit-le, bit-zero, bit-inter, bit-insert-same, bit-insert-other}
 use Rattle.sets.specs.Laws.Subset.{has-true, has-false}
+use Rattle.book.specs.Limits.{maxChoices}
 use Rattle.step.specs.Meaning.{costOf, sumBelow, setCost, literalOf}
 use Rattle.step.specs.Contracts.{literalCost, weightOf, Weighed, total}
 
@@ -163,15 +164,15 @@ set-bound table n k on off b p =
 
 -- The first i weights are known.
 pub record WeighedTo (table : List (List ℕ)) (on off : ℕ) (ws : List ℕ) (i : ℕ) : Type 0 where
-  pub rows : length ws ≡ 20
-  pub done : i ≤ 20
+  pub rows : length ws ≡ maxChoices
+  pub done : i ≤ maxChoices
   pub weighs : (v : ℕ) → v < i → getD ws v 0 ≡ weightOf table on off v
 
 module _ {table : List (List ℕ)} {on off : ℕ} where
-  pub weighed-none : {ws : List ℕ} → length ws ≡ 20 → WeighedTo table on off ws 0
+  pub weighed-none : {ws : List ℕ} → length ws ≡ maxChoices → WeighedTo table on off ws 0
   weighed-none e = record { rows = e; done = omega arith; weighs = λ v h. absurd (omega arith) }
 
-  pub weighed-more : {ws : List ℕ} {i w : ℕ} → WeighedTo table on off ws i → i < 20 → w ≡ weightOf table on off i
+  pub weighed-more : {ws : List ℕ} {i w : ℕ} → WeighedTo table on off ws i → i < maxChoices → w ≡ weightOf table on off i
       → WeighedTo table on off (set ws i w) (i + 1)
   weighed-more {ws} {i} {w} x h e = record { rows = length-set ws i w ∙ x .rows; done = omega arith; weighs = at-all }
     where
@@ -180,7 +181,7 @@ module _ {table : List (List ℕ)} {on off : ℕ} where
           by-cases (ℕ-discrete v i) (λ p. rw p (getD-set-same ws i w 0 (omega (arith, x .rows)) ∙ e))
           (λ p. getD-set-other ws i v w 0 p ∙ x .weighs v (omega arith))
 
-  pub weighed-all : {ws : List ℕ} {i : ℕ} → WeighedTo table on off ws i → 20 ≤ i → Weighed table on off ws
+  pub weighed-all : {ws : List ℕ} {i : ℕ} → WeighedTo table on off ws i → maxChoices ≤ i → Weighed table on off ws
   weighed-all x h = record { rows = x .rows; weighs = λ v l. x .weighs v (omega (arith, x .done)) }
 
 -- the known literal is one that says yes, or one that says no, or there is none

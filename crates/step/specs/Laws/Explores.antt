@@ -18,8 +18,9 @@ use Rattle.sat.specs.Laws.Assigns.{model-assigned, assigned-model, posed-assign
 use Rattle.sat.specs.Laws.Searches.{searched-first, searched-none}
 use Rattle.sat.specs.declared.Outcome.{Outcome}
 use Rattle.sat.specs.declared.Outcome.the-variants.{Model as Found, Nothing}
+use Rattle.book.specs.Limits.{maxChoices}
 use Rattle.step.specs.Cheapest.{Least, Between, Rises, Hit, insert-within, within-remove, remove-within, insert-more, remove-less, prune, hit, no-member, branch-on, hit-rest}
-use Rattle.step.specs.Contracts.{total, keyOf, Small, aimOn, aimOff, Against, deniedBy, Refutes, keyAt, Sought, Exploring, Branching, Explored}
+use Rattle.step.specs.Contracts.{costRoom, total, keyOf, Small, aimOn, aimOff, Against, deniedBy, Refutes, keyAt, Sought, Exploring, Branching, Explored}
 use Rattle.step.specs.Laws.Costs.{total-le, total-insert}
 use Rattle.step.specs.declared.Aim.{Aim}
 use Rattle.step.specs.declared.Part.{Part}
@@ -46,22 +47,22 @@ against-said {aim} {s} {a} {b} p q e t =
     let w = said (aim .says) (inter s (aim .on)) (inter s (aim .off)) (aim .goal) a b (rw (p, q, e) at t) in
     record { on-said = w .0; off-said = w .1 }
 
-pub reasons-posed : {n on off : ℕ} {ys ns : List ℕ} (s : ℕ) → Posed n ys ns on off → Posed n ys ns (inter s on) (inter s off)
-reasons-posed {n} {on} {off} s p =
+pub reasons-posed : {n on off : ℕ} {ys ns : List ℕ} (s t : ℕ) → Posed n ys ns on off → Posed n ys ns (inter s on) (inter t off)
+reasons-posed {n} {on} {off} s t p =
     record {
       small = p .small;
       paired = p .paired;
       yes-masks = p .yes-masks;
       no-masks = p .no-masks;
       on-below = omega (arith, and-le-r s on, p .on-below);
-      off-below = omega (arith, and-le-r s off, p .off-below);
-      apart = record { avoids = λ v. omega (arith, bit-inter s on v, bit-inter s off v, p .apart .avoids v) };
+      off-below = omega (arith, and-le-r t off, p .off-below);
+      apart = record { avoids = λ v. omega (arith, bit-inter s on v, bit-inter t off v, p .apart .avoids v) };
     }
 
 pub aim-posed : {n : ℕ} {ys ns : List ℕ} (aim : Aim) (s : ℕ) → Posed n ys ns (aim .on) (aim .off) → aim .goal < n → bit (aim .on) (aim .goal) ≡ 0
     → bit (aim .off) (aim .goal) ≡ 0 → Posed n ys ns (aimOn aim s) (aimOff aim s)
 aim-posed aim s p h x y =
-    posed-assigned (reasons-posed s p) h (omega (arith, bit-inter s (aim .on) (aim .goal))) (omega (arith, bit-inter s (aim .off) (aim .goal)))
+    posed-assigned (reasons-posed s s p) h (omega (arith, bit-inter s (aim .on) (aim .goal))) (omega (arith, bit-inter s (aim .off) (aim .goal)))
     (aim-assigned aim s)
 
 -- ---- keys
@@ -73,11 +74,11 @@ module _ {n : ℕ} {ys ns ws : List ℕ} {aim : Aim} where
   -- a set of known variables
   known-small : (s : ℕ) → Sought n ys ns ws aim → Within s (union (aim .on) (aim .off)) → Small (aim .cost + total ws n s) (aim .goal) s
   known-small s x w =
-      let bound : 2 ^ n ≤ 2 ^ 32 = pow-mono (x .few) in
+      let bound : 2 ^ length ws ≤ 2 ^ maxChoices = pow-mono (x .rows) in
       record {
         cost-small = omega (arith, x .cheap, total-le ws n s (full n) (record { keeps = below }));
-        goal-small = omega (arith, x .goal-below, x .few);
-        set-small = omega (arith, within-le s (union (aim .on) (aim .off)) w, known-below x);
+        goal-small = omega (arith, x .goal-below, x .posed .small);
+        set-small = omega (arith, within-le s (union (aim .on) (aim .off)) w, x .weighed);
       }
     where
       below : (v : ℕ) → bit s v ≤ bit (full n) v
@@ -197,7 +198,7 @@ module _ {n : ℕ} {ys ns ws : List ℕ} {aim : Aim} {part : Part} where
       }
 
   -- the sum of the costs has room
-  pub branch-fits : {w v : ℕ} → Branching n ys ns ws aim part w → Member n ws part v → part .cost + getD ws v 0 < 65536
+  pub branch-fits : {w v : ℕ} → Branching n ys ns ws aim part w → Member n ws part v → part .cost + getD ws v 0 < costRoom
   branch-fits {v = v} b m =
       let more : Within (insert (part .chosen) v) (part .limit) = insert-within (part .chosen) (part .limit) v (b .exploring .nested) (m .limited) in
       let known : Within (insert (part .chosen) v) (union (aim .on) (aim .off)) = within-trans (insert (part .chosen) v) (part .limit) (union (aim .on) (aim .off)) more (b .exploring .known) in

@@ -12,6 +12,7 @@ use Rattle.sets.specs.Laws.Bits.{bit-le, bit-zero, bit-high, bit-union, bit-dif
 use Rattle.sets.specs.Laws.Subset.{has-true, has-false, one-has, zero-has, within-refl, within-le, within-trans}
 use Rattle.literals.specs.declared.LiteralSet.{LiteralSet}
 use Rattle.sat.specs.Contracts.{Posed}
+use Rattle.book.specs.Limits.{maxChoices, maxCost}
 use Rattle.step.specs.Meaning.{Question, costOf, setCost, literalOf, yesGoals, noGoals, goals, reasonsOn, reasonsOff, againstOn, againstOff, candidateCost}
 use Rattle.step.specs.Cheapest.{Least, Between, least-none, least-both, least-same, remove-within, remove-less}
 use Rattle.step.specs.Contracts.{literalCost, weightOf, Weighed, total, keyOf, Small, aimOn, aimOff, Refutes, keyAt, Sought, Exploring, Explored, question, aimAt, whole, Ready, Picks, Pair, pairKey, noKey, Found, Trying, Searching}
@@ -37,7 +38,7 @@ unfolding literalCost
 opposite-cost table ws on off w n s v h p q true = omega (arith, cost-with-no table ws on off w n s v h q)
 opposite-cost table ws on off w n s v h p q false = omega (arith, cost-with-yes table ws on off w n s v h p)
 
-literal-cheap : (table : List (List ℕ)) → ((v column : ℕ) → costOf table v column ≤ 999) → (v : ℕ) (says : Bool) → literalCost table (literalOf v says) ≤ 999
+literal-cheap : (table : List (List ℕ)) → ((v column : ℕ) → costOf table v column ≤ maxCost) → (v : ℕ) (says : Bool) → literalCost table (literalOf v says) ≤ maxCost
 unfolding literalCost
 literal-cheap table b v true = b v 0
 literal-cheap table b v false = b v 1
@@ -50,7 +51,7 @@ pub record Open (n : ℕ) (c k : LiteralSet) (v : ℕ) : Type 0 where
   pub not-on : bit (k .yes) v ≡ 0
   pub not-off : bit (k .no) v ≡ 0
   pub below : v < n
-  pub row : v < 20
+  pub row : v < maxChoices
   pub signed : has (diff (c .no) (k .no)) v ≡ not (has (diff (c .yes) (k .yes)) v)
   pub says : has (c .yes) v ≡ has (diff (c .yes) (k .yes)) v
 
@@ -75,7 +76,7 @@ module _ {n : ℕ} {ys ns : List ℕ} {table : List (List ℕ)} {c k : LiteralSe
         not-on = omega (arith, goal-at c k v, x .known-yes .keeps v, x .known-no .keeps v, x .posed .apart .avoids v, bit-le (c .yes) v, bit-le (c .no) v);
         not-off = omega (arith, goal-at c k v, x .known-yes .keeps v, x .known-no .keeps v, x .posed .apart .avoids v, bit-le (c .yes) v, bit-le (c .no) v);
         below = member-lt n (union (c .yes) (c .no)) v in-both (union-lt n (c .yes) (c .no) (x .posed .on-below) (x .posed .off-below));
-        row = member-lt 20 (union (c .yes) (c .no)) v in-both (x .rows);
+        row = member-lt maxChoices (union (c .yes) (c .no)) v in-both (x .rows);
         signed = sign-of (c .yes) (c .no) (k .yes) (k .no) v (x .posed .apart .avoids v) e;
         says = same (has (diff (c .yes) (k .yes)) v) refl;
       }
@@ -106,7 +107,7 @@ module _ {n : ℕ} {ys ns : List ℕ} {table : List (List ℕ)} {c k : LiteralSe
   known-apart = known-posed .apart
 
   -- a known variable is that of a row
-  known-rows : union (k .yes) (k .no) < 2 ^ 20
+  known-rows : union (k .yes) (k .no) < 2 ^ maxChoices
   known-rows =
       omega (arith, x .rows, within-le (union (k .yes) (k .no)) (union (c .yes) (c .no)) (record { keeps = in-both }))
     where
@@ -117,11 +118,11 @@ module _ {n : ℕ} {ys ns : List ℕ} {table : List (List ℕ)} {c k : LiteralSe
 
   all-weighed : {ws : List ℕ} → Weighed table (k .yes) (k .no) ws → (v : ℕ) → getD ws v 0 ≡ weightOf table (k .yes) (k .no) v
   unfolding weightOf
-  all-weighed {ws} w v = by-cases (decLt v 20) (λ h. w .weighs v h) beyond
+  all-weighed {ws} w v = by-cases (decLt v maxChoices) (λ h. w .weighs v h) beyond
     where
-      beyond : (v < 20 → ⊥) → getD ws v 0 ≡ bit (k .yes) v * costOf table v 0 + bit (k .no) v * costOf table v 1
+      beyond : (v < maxChoices → ⊥) → getD ws v 0 ≡ bit (k .yes) v * costOf table v 0 + bit (k .no) v * costOf table v 1
       beyond h =
-          let none : bit (union (k .yes) (k .no)) v ≡ 0 = bit-high 20 (union (k .yes) (k .no)) v known-rows (omega arith) in
+          let none : bit (union (k .yes) (k .no)) v ≡ 0 = bit-high maxChoices (union (k .yes) (k .no)) v known-rows (omega arith) in
           let on : bit (k .yes) v ≡ 0 = omega (arith, bit-union (k .yes) (k .no) v) in
           let off : bit (k .no) v ≡ 0 = omega (arith, bit-union (k .yes) (k .no) v) in
           omega (
@@ -131,10 +132,10 @@ module _ {n : ℕ} {ys ns : List ℕ} {table : List (List ℕ)} {c k : LiteralSe
             ap (λ (d : ℕ). d * costOf table v 1) off,
           )
 
-  weight-cheap : {ws : List ℕ} → Weighed table (k .yes) (k .no) ws → (v : ℕ) → getD ws v 0 ≤ 999
+  weight-cheap : {ws : List ℕ} → Weighed table (k .yes) (k .no) ws → (v : ℕ) → getD ws v 0 ≤ maxCost
   unfolding weightOf
   weight-cheap w v =
-      omega (arith, all-weighed w v, one-cost 999 (bit (k .yes) v) (bit (k .no) v) (costOf table v 0) (costOf table v 1) (known-apart .avoids v) (x .cheap v 0) (x .cheap v 1))
+      omega (arith, all-weighed w v, one-cost maxCost (bit (k .yes) v) (bit (k .no) v) (costOf table v 0) (costOf table v 1) (known-apart .avoids v) (x .cheap v 0) (x .cheap v 1))
 
   -- ---- the search for the goal over variable v + 1
 
@@ -143,12 +144,12 @@ module _ {n : ℕ} {ys ns : List ℕ} {table : List (List ℕ)} {c k : LiteralSe
     goal-sought =
         record {
           posed = known-posed;
-          few = x .few;
           goal-below = o .below;
           not-on = o .not-on;
           not-off = o .not-off;
+          rows = omega (arith, w .rows);
           weighed = rw (w .rows) known-rows;
-          cheap = omega (arith, total-bound ws n (full n) 999 (weight-cheap w), literal-cheap table (x .cheap) v (not says), x .few);
+          cheap = omega (arith, total-bound ws n (full n) maxCost (weight-cheap w), literal-cheap table (x .cheap) v (not says), x .few);
         }
 
     pub goal-exploring : Exploring n ys ns ws (aimAt table k v says) (whole (aimAt table k v says))
@@ -183,7 +184,7 @@ module _ {n : ℕ} {ys ns : List ℕ} {table : List (List ℕ)} {c k : LiteralSe
     unfolding candidateCost
     against-small w =
         record {
-          cost-small = omega (arith, set-bound table n 999 _ _ (x .cheap) (against-posed .apart), x .few);
+          cost-small = omega (arith, set-bound table n maxCost _ _ (x .cheap) (against-posed .apart), x .few);
           goal-small = omega (arith, o .row);
           set-small = omega (arith, within-le s (union (k .yes) (k .no)) w, known-rows);
         }
@@ -270,7 +271,7 @@ module _ {n : ℕ} {ys ns : List ℕ} {table : List (List ℕ)} {c k : LiteralSe
     searching-open =
         goal-open x v (omega (arith, l .least .member, s .untried .keeps v, bit-le (openGoals c k) v))
 
-    pub searching-row : v < 20
+    pub searching-row : v < maxChoices
     searching-row = searching-open .row
 
     module _ {ws : List ℕ} {says : Bool} {aim : Aim} {part : Part} (w : Weighed table (k .yes) (k .no) ws) (q : says ≡ has (c .yes) v) (a : aim ≡ aimAt table k v says) (b : part ≡ whole aim) where

@@ -10,7 +10,7 @@ use native.Mathlib.Omega.{arith}
 use lib.Dec.{ltb, eqb}
 use borrow.Author.Tests.{ltb-true, ltb-false, eqb-true, eqb-false, lt-ltb, le-ltb}
 use Rattle.step.specs.Meaning.{Candidate, before, earlier, firstOf}
-use Rattle.step.specs.Contracts.{keyOf, Small}
+use Rattle.step.specs.Contracts.{setRoom, goalRoom, noKey, keyOf, Small}
 
 -- ---- the order as facts
 
@@ -132,9 +132,9 @@ earlier-key c d x y = go (earlier c d) refl
 
 -- what a key says
 pub record Decoded (r cost goal s : ℕ) : Type 0 where
-  pub cost-of : r / 4294967296 / 64 ≡ cost
-  pub goal-of : r / 4294967296 % 64 ≡ goal
-  pub set-of : r % 4294967296 ≡ s
+  pub cost-of : r / setRoom / goalRoom ≡ cost
+  pub goal-of : r / setRoom % goalRoom ≡ goal
+  pub set-of : r % setRoom ≡ s
 
 pub decode : (cost goal s : ℕ) → Small cost goal s → Decoded (keyOf cost goal s) cost goal s
 decode cost goal s x =
@@ -145,5 +145,5 @@ decode cost goal s x =
     }
 
 -- no candidate's key is above that of none
-pub key-below : (cost goal s : ℕ) → Small cost goal s → keyOf cost goal s < 18446744073709551615
+pub key-below : (cost goal s : ℕ) → Small cost goal s → keyOf cost goal s < noKey
 key-below cost goal s x = omega (arith, x .cost-small, x .goal-small, x .set-small)

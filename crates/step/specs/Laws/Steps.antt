@@ -9,10 +9,9 @@ use lib.Dec.{eqb}
 use borrow.Author.Tests.{eq-eqb, ne-eqb}
 use Rattle.sets.specs.Sets.{bit, has, union, inter, diff}
 use Rattle.sets.specs.Laws.Bits.{bit-inter, bit-union, union-lt, diff-lt, pos-of-member}
-use Rattle.sets.specs.Laws.Subset.{within-le}
+use Rattle.sets.specs.Laws.Subset.{within-trans, within-le}
 use Rattle.literals.specs.Literal.{Literal}
 use Rattle.literals.specs.declared.LiteralSet.{LiteralSet}
-use Rattle.sat.specs.Meaning.{Model}
 use Rattle.consequence.specs.Meaning.{contradicts, yesForced, noForced}
 use Rattle.consequence.specs.Contracts.{problem, Concluded}
 use Rattle.consequence.specs.Laws.{model-contradicts}
@@ -20,7 +19,7 @@ use Rattle.consequence.specs.declared.Consequence.{Consequence}
 use Rattle.consequence.specs.declared.Consequence.the-variants.{NoModel as Contradiction, Forced}
 use Rattle.step.specs.Meaning.{Question, literalOf, yesGoals, noGoals, goals, goalLiteral, reasonsOn, reasonsOff, candidateCost, Candidate, candidate, theStep, nothingLeft, step, newOn, newOff, stepFrom, answerFrom, stepOf}
 use Rattle.step.specs.Cheapest.{least-some}
-use Rattle.step.specs.Contracts.{keyOf, Small, question, Ready, Picks, Pair, pairKey, noKey, Found, Reasoned, Learnt, Asked, Chosen, stepAt, answer}
+use Rattle.step.specs.Contracts.{setRoom, goalRoom, keyOf, Small, question, Ready, Picks, Pair, pairKey, noKey, Found, Reasoned, Learnt, Asked, Chosen, stepAt, answer}
 use Rattle.step.specs.Laws.Order.{upto-key, Decoded, decode, key-below}
 use Rattle.step.specs.Laws.Explores.{reasons-posed}
 use Rattle.step.specs.Laws.Candidates.{Sized, TheStep, the-step}
@@ -28,10 +27,10 @@ use Rattle.step.specs.Laws.Goals.{goal-open, known-posed, against-small}
 use Rattle.step.specs.declared.Next.{Next}
 
 -- The candidate that a key stands for is the step.
-pub record Picked (q : Question) (best : ℕ) : Type 0 where
-  pub picks : Picks q (best / 4294967296 % 64) (best % 4294967296)
-  pub taken : theStep q ≡ some (candidate q (best / 4294967296 % 64) (best % 4294967296))
-  pub costs : candidateCost q (best / 4294967296 % 64) (best % 4294967296) ≡ best / 4294967296 / 64
+pub record StandsFor (q : Question) (best : ℕ) : Type 0 where
+  pub picks : Picks q (best / setRoom % goalRoom) (best % setRoom)
+  pub taken : theStep q ≡ some (candidate q (best / setRoom % goalRoom) (best % setRoom))
+  pub costs : candidateCost q (best / setRoom % goalRoom) (best % setRoom) ≡ best / setRoom / goalRoom
 
 module _ {n : ℕ} {ys ns : List ℕ} {ch : ℕ} {table : List (List ℕ)} {c k : LiteralSet} where
   -- ---- what is asked
@@ -82,7 +81,7 @@ module _ {n : ℕ} {ys ns : List ℕ} {table : List (List ℕ)} {c k : LiteralSe
 
   -- ---- the candidate that a key stands for
 
-  pub some-found : {best : ℕ} → Found n ys ns table c k best → (best ≡ noKey → ⊥) → Picked (question n ys ns ch table c k) best
+  pub some-found : {best : ℕ} → Found n ys ns table c k best → (best ≡ noKey → ⊥) → StandsFor (question n ys ns ch table c k) best
   unfolding candidate
   some-found {best} f ne = go (theStep q) refl (the-step q ready-sized)
     where
@@ -92,7 +91,7 @@ module _ {n : ℕ} {ys ns : List ℕ} {table : List (List ℕ)} {c k : LiteralSe
       least : (t : Pair) × Picks q (t .goal) (t .set) × (best ≡ pairKey q t)
       least = least-some (f .cheapest ch) ne
 
-      go : (o : Option Candidate) → theStep q ≡ o → TheStep q o → Picked q best
+      go : (o : Option Candidate) → theStep q ≡ o → TheStep q o → StandsFor q best
       go none e t = absurd (t (least .0 .goal) (least .0 .set) (least .1))
       go (some d) e t =
           record {
@@ -175,34 +174,28 @@ module _ {n : ℕ} {ys ns : List ℕ} {ch : ℕ} {table : List (List ℕ)} {c k 
 
   -- the candidate that the least key stands for
   module _ {best : ℕ} (a : Asked n ys ns ch table c k) (f : Found n ys ns table c k best) (e : best ≡ noKey → ⊥) where
-    picked : Picked (question n ys ns ch table c k) best
+    picked : StandsFor (question n ys ns ch table c k) best
     picked = some-found ch (asked-ready a) f e
 
     pub answer-chosen : Chosen n ys ns ch k best
     answer-chosen =
         record {
-          reasoned = record {
-            posed = reasons-posed s (known-posed (asked-ready a));
+          known = record {
+            posed = known-posed (asked-ready a);
             short = a .short;
             choices-below = a .choices-below;
             model = (
               a .model .0,
               record {
-                below = m .below;
-                keeps = record { keeps = λ v. omega (arith, bit-inter s (k .yes) v, a .known-yes .keeps v, m .keeps .keeps v) };
-                avoids = record { avoids = λ v. omega (arith, bit-inter s (k .no) v, a .known-no .keeps v, m .avoids .avoids v) };
-                obeyed = m .obeyed;
+                below = a .model .1 .below;
+                keeps = within-trans (k .yes) (c .yes) (a .model .0) (a .known-yes) (a .model .1 .keeps);
+                avoids = record { avoids = λ v. omega (arith, a .known-no .keeps v, a .model .1 .avoids .avoids v) };
+                obeyed = a .model .1 .obeyed;
               },
             );
           };
           cheap = omega (arith, picked .costs, picks-small ch (asked-ready a) _ _ (picked .picks) .cost-small);
         }
-      where
-        s : ℕ
-        s = best % 4294967296
-
-        m : Model n ys ns (c .yes) (c .no) (a .model .0)
-        m = a .model .1
 
     pub answer-step : {r : Next} → r ≡ answer (step (stepAt n ys ns ch c k best)) → r ≡ answer (stepOf (question n ys ns ch table c k))
     unfolding answerFrom stepFrom candidate goalLiteral reasonsOn reasonsOff newOn newOff yesGoals
@@ -211,9 +204,9 @@ module _ {n : ℕ} {ys ns : List ℕ} {ch : ℕ} {table : List (List ℕ)} {c k 
         q : Question
         q = question n ys ns ch table c k
 
-        same : candidate q (best / 4294967296 % 64) (best % 4294967296)
-            ≡ record { cost = best / 4294967296 / 64; goal = best / 4294967296 % 64; reasons = best % 4294967296 }
-        same = λ i. record { cost = picked .costs i; goal = best / 4294967296 % 64; reasons = best % 4294967296 }
+        same : candidate q (best / setRoom % goalRoom) (best % setRoom)
+            ≡ record { cost = best / setRoom / goalRoom; goal = best / setRoom % goalRoom; reasons = best % setRoom }
+        same = λ i. record { cost = picked .costs i; goal = best / setRoom % goalRoom; reasons = best % setRoom }
 
         theirs : stepOf q ≡ step (stepAt n ys ns ch c k best)
         theirs =
@@ -224,25 +217,40 @@ module _ {n : ℕ} {ys ns : List ℕ} {ch : ℕ} {table : List (List ℕ)} {c k 
 -- ---- `step_of`
 
 module _ {n : ℕ} {ys ns : List ℕ} {ch best : ℕ} {k : LiteralSet} (x : Chosen n ys ns ch k best) where
-  pub chosen-reasons : {a b : ℕ} → a ≡ inter (best % 4294967296) (k .yes) → b ≡ inter (best % 4294967296) (k .no)
-      → Reasoned n ys ns ch (record { yes = a; no = b })
-  chosen-reasons p q = rw (p, q) (x .reasoned)
+  -- any literals of K serve as reasons
+  pub chosen-reasons : (s t : ℕ) {a b : ℕ} → a ≡ inter s (k .yes) → b ≡ inter t (k .no) → Reasoned n ys ns ch (record { yes = a; no = b })
+  chosen-reasons s t p q =
+      rw (p, q)
+      (record {
+        posed = reasons-posed s t (x .known .posed);
+        short = x .known .short;
+        choices-below = x .known .choices-below;
+        model = (
+          x .known .model .0,
+          record {
+            below = x .known .model .1 .below;
+            keeps = record { keeps = λ v. omega (arith, bit-inter s (k .yes) v, x .known .model .1 .keeps .keeps v) };
+            avoids = record { avoids = λ v. omega (arith, bit-inter t (k .no) v, x .known .model .1 .avoids .avoids v) };
+            obeyed = x .known .model .1 .obeyed;
+          },
+        );
+      })
 
   pub chosen-step : (c : LiteralSet) {d a b : ℕ} {says : Bool} {l : Literal} {new : LiteralSet} → d ≡ diff (c .yes) (k .yes)
-      → says ≡ has d (best / 4294967296 % 64) → l ≡ literalOf (best / 4294967296 % 64) says → a ≡ inter (best % 4294967296) (k .yes)
-      → b ≡ inter (best % 4294967296) (k .no) → Learnt n ys ns ch (record { yes = a; no = b }) k new
-      → Next.Step l (record { yes = a; no = b }) new (best / 4294967296 / 64) ≡ answer (step (stepAt n ys ns ch c k best))
+      → says ≡ has d (best / setRoom % goalRoom) → l ≡ literalOf (best / setRoom % goalRoom) says → a ≡ inter (best % setRoom) (k .yes)
+      → b ≡ inter (best % setRoom) (k .no) → Learnt n ys ns ch (record { yes = a; no = b }) k new
+      → Next.Step l (record { yes = a; no = b }) new (best / setRoom / goalRoom) ≡ answer (step (stepAt n ys ns ch c k best))
   unfolding stepFrom goalLiteral reasonsOn reasonsOff newOn newOff yesGoals
   chosen-step c {d} {a} {b} {says} {l} {new} p q e s t w =
-      λ i. Next.Step (goal-is i) (record { yes = s i; no = t i }) (record { yes = yes-is i; no = no-is i }) (best / 4294967296 / 64)
+      λ i. Next.Step (goal-is i) (record { yes = s i; no = t i }) (record { yes = yes-is i; no = no-is i }) (best / setRoom / goalRoom)
     where
-      goal-is : l ≡ literalOf (best / 4294967296 % 64) (has (diff (c .yes) (k .yes)) (best / 4294967296 % 64))
-      goal-is = e ∙ ap (literalOf (best / 4294967296 % 64)) (q ∙ ap (λ (m : ℕ). has m (best / 4294967296 % 64)) p)
+      goal-is : l ≡ literalOf (best / setRoom % goalRoom) (has (diff (c .yes) (k .yes)) (best / setRoom % goalRoom))
+      goal-is = e ∙ ap (literalOf (best / setRoom % goalRoom)) (q ∙ ap (λ (m : ℕ). has m (best / setRoom % goalRoom)) p)
 
-      yes-is : new .yes ≡ diff (yesForced (problem n ys ns ch) (inter (best % 4294967296) (k .yes)) (inter (best % 4294967296) (k .no))) (k .yes)
+      yes-is : new .yes ≡ diff (yesForced (problem n ys ns ch) (inter (best % setRoom) (k .yes)) (inter (best % setRoom) (k .no))) (k .yes)
       yes-is = w .yes-new ∙ ap₂ (λ (u : ℕ) (v : ℕ). diff (yesForced (problem n ys ns ch) u v) (k .yes)) s t
 
-      no-is : new .no ≡ diff (noForced (problem n ys ns ch) (inter (best % 4294967296) (k .yes)) (inter (best % 4294967296) (k .no))) (k .no)
+      no-is : new .no ≡ diff (noForced (problem n ys ns ch) (inter (best % setRoom) (k .yes)) (inter (best % setRoom) (k .no))) (k .no)
       no-is = w .no-new ∙ ap₂ (λ (u : ℕ) (v : ℕ). diff (noForced (problem n ys ns ch) u v) (k .no)) s t
 
 pub ruleset learn-laws = (learn-absurd, learnt)
