@@ -40,10 +40,10 @@ module _ (p : Posing) {r : Consequence} where
 
 module _ {b : OrderBook} (w : WellFormed b) where
   -- the rules that the search was handed are those of the book
-  yes-rules : take (b .header .rules) (kept b .yes) ≡ map yesMask (b .rules)
+  pub yes-rules : take (b .header .rules) (kept b .yes) ≡ map yesMask (b .rules)
   yes-rules = kept-rules yesMask (b .rules) (b .header .rules) (w .rule-count)
 
-  no-rules : take (b .header .rules) (kept b .no) ≡ map noMask (b .rules)
+  pub no-rules : take (b .header .rules) (kept b .no) ≡ map noMask (b .rules)
   no-rules = kept-rules noMask (b .rules) (b .header .rules) (w .rule-count)
 
   pub model-says : (end : ℕ) (r : ModelAnswer) → FoundModel (posed-from (kept b)) r → ModelSays (value b end) r

@@ -13,6 +13,7 @@ use Rattle.consequence.specs.Meaning.{Problem, contradicts, yesForced, noForced
 use Rattle.step.specs.Meaning.{Question, Answer, nothingLeft, noCandidate, step, stepOf, costOf}
 use Rattle.step.specs.Contracts.{Asked, question}
 use Rattle.consequence.specs.Contracts.{problem}
+use Rattle.log.specs.Contracts.{Logs}
 use Rattle.engine.specs.declared.problem.Posing.{Posing}
 use Rattle.engine.specs.declared.StepAnswer.{StepAnswer}
 use Rattle.engine.specs.declared.StepAnswer.the-variants as StepAnswer
@@ -87,3 +88,19 @@ pub record Steppable (p : Posing) (costs : List (List ℕ)) : Type 0 where
 pub record Stepping (p : Posing) (costs : List (List ℕ)) (forced known : LiteralSet) : Type 0 where
   pub posable : Posable p
   pub asked : Asked (p .variables) (take (p .rules) (p .yes)) (take (p .rules) (p .no)) (p .choices) costs forced known
+
+-- ---- the log
+
+-- What the first step of the log asks.
+abbrev pub logQuestion : Posing → List (List ℕ) → LiteralSet → Question
+logQuestion p costs forced = question (p .variables) (take (p .rules) (p .yes)) (take (p .rules) (p .no)) (p .choices) costs forced (p .facts)
+
+-- A problem and costs that a log can be made of: the given facts are over choices.
+pub record Loggable (p : Posing) (costs : List (List ℕ)) : Type 0 where
+  pub steppable : Steppable p costs
+  pub yes-facts : Within (p .facts .yes) (p .choices)
+  pub no-facts : Within (p .facts .no) (p .choices)
+
+pub record Logging (p : Posing) (costs : List (List ℕ)) (forced : LiteralSet) : Type 0 where
+  pub posable : Posable p
+  pub logs : Logs (p .variables) (take (p .rules) (p .yes)) (take (p .rules) (p .no)) (p .choices) costs forced (p .facts)

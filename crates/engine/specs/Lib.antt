@@ -4,4 +4,6 @@ pub mod Answer
 pub mod Contracts
 pub mod Steps
 pub mod Demand2
+pub mod Demand3
+pub mod Logs
 pub mod Orders

@@ -6,7 +6,9 @@ ghost use Prim.Native.Nat.{_≤_};
 ghost use lib.ListN.{length};
 ghost use Rattle.engine.specs.Answer.{Modelled, consequenceAnswer};
 ghost use Rattle.engine.specs.Steps.{stepAnswer};
-ghost use Rattle.engine.specs.Contracts.{Posable, FoundModel, FoundForced, Steppable, between, stepIn, stepSays, stepQuestion, Stepping};
+ghost use Rattle.engine.specs.Contracts.{Posable, FoundModel, FoundForced, Steppable, between, stepIn, stepSays, stepQuestion, Stepping, Loggable, Logging, logQuestion};
+ghost use Rattle.log.specs.Contracts.{runOf};
+ghost use Rattle.engine.specs.Logs.{Logged, LoggedAs, logIn, ofRun};
 
 pub mod problem;
 
@@ -14,6 +16,7 @@ use book::Book;
 use book::Reading;
 use consequence::Consequence;
 use literals::LiteralSet;
+use log::Written;
 use problem::Posing;
 use sat::Partial;
 use step::Next;
@@ -239,6 +242,81 @@ fn take_step(
         },
         Next::NothingLeft => StepAnswer::NothingLeft,
         Next::NoCandidate => StepAnswer::Refused {
+            number: 11,
+            place: 0,
+        },
+    }
+}
+
+// The log of the book into a lent buffer: demand 3.
+// Ruled out: OK with 0 steps for every book; a first step with all given facts as reasons and everything as new, the rest for show.
+pub fn log(s: &[u8], buffer: &mut [u8]) -> LogAnswer
+    ensures { λ r. ⌜ Logged (now (s .entry)) (now (buffer .entry)) (now (buffer .exit)) r ⌝ }
+{
+    let reading = book::read(s);
+    let outcome = reading.outcome;
+    match outcome {
+        book::Outcome::Refused { number, place } => LogAnswer::Refused { number, place },
+        book::Outcome::Accepted => {
+            if buffer.len() < Book::MAX_LOG {
+                return LogAnswer::Refused {
+                    number: 8,
+                    place: 0,
+                };
+            }
+            let costs = book::read_costs(s);
+            let b = reading.book;
+            log_of(problem::pose(b), costs, buffer)
+        }
+    }
+}
+
+// The log of a problem into a buffer that has room, or refusal 9 or 11.
+fn log_of(p: Posing, costs: [[u16; 2]; Book::MAX_CHOICES], buffer: &mut [u8]) -> LogAnswer
+    requires { ⌜ Loggable p costs ⌝ }
+    requires { ⌜ 547 ≤ length (now buffer) ⌝ }
+    ensures { λ r. ⌜ LoggedAs (logIn p costs) (now (buffer .entry)) (now (buffer .exit)) r ⌝ }
+{
+    match propagate(p) {
+        ConsequenceAnswer::Refused { number, place } => LogAnswer::Refused { number, place },
+        ConsequenceAnswer::Forced(forced) => write_log(p, costs, forced, buffer),
+    }
+}
+
+// The log of a problem whose given facts force this set.
+fn write_log(
+    p: Posing,
+    costs: [[u16; 2]; Book::MAX_CHOICES],
+    forced: LiteralSet,
+    buffer: &mut [u8],
+) -> LogAnswer
+    requires { ⌜ Logging p costs forced ⌝ }
+    requires { ⌜ 547 ≤ length (now buffer) ⌝ }
+    ensures { λ r. ⌜ LoggedAs (ofRun (runOf (logQuestion p costs forced))) (now (buffer .entry)) (now (buffer .exit)) r ⌝ }
+{
+    let yes = p.yes;
+    let no = p.no;
+    let rules = p.rules;
+    match log::write(
+        p.variables,
+        &yes[..rules],
+        &no[..rules],
+        p.choices,
+        costs,
+        forced,
+        p.facts,
+        buffer,
+    ) {
+        Written::Log {
+            length,
+            steps,
+            total,
+        } => LogAnswer::Written {
+            length,
+            steps,
+            total,
+        },
+        Written::Stuck => LogAnswer::Refused {
             number: 11,
             place: 0,
         },

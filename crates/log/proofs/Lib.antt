@@ -1,0 +1,5 @@
+mod EndLaws
+mod ListLaws
+mod RecordLaws
+pub mod RunLaws
+mod StoreLaws

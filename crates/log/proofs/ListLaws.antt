@@ -1,0 +1,80 @@
+-- Writing a list of literals, member by member.
+-- Assumes nothing.
+use mathlib.Core.Path.{_≡_, refl, sym, ap, _∙_}
+use mathlib.Core.List.{List, [], _∷_, _++_, map, map-append, append-assoc, append-nil}
+use Prim.Native.Nat.{ℕ, zero, suc, _+_, _^_, _≤_, _<_}
+use native.Mathlib.Numerals.{add-one}
+use native.Mathlib.Omega.{arith}
+use lib.ListN.{length, set, length-append, length-map}
+use lib.Seq.{sets}
+use Rattle.sets.specs.Sets.{has, union, count, members, membersBelow, remove, Least, Lowest}
+use Rattle.sets.specs.Laws.Bits.{remove-lt}
+use Rattle.sets.specs.Laws.Count.{ones-remove}
+use Rattle.sets.specs.Laws.Members.{members-zero, members-length, members-below, members-least}
+use Rattle.literals.specs.Literal.{Literal, byteOf}
+use Rattle.step.specs.Meaning.{literalOf}
+use Rattle.log.specs.Meaning.{literalsOf, listBytes}
+use Rattle.log.specs.Contracts.{memberByte, Put}
+use Rattle.log.proofs.StoreLaws.{put-append, put-byte, put-none, put-length}
+
+map-twice : (f : Literal → ℕ) (g : ℕ → Literal) (xs : List ℕ) → map f (map g xs) ≡ map (λ v. f (g v)) xs
+map-twice f g [] = refl
+map-twice f g (x ∷ xs) = ap (λ l. f (g x) ∷ l) (map-twice f g xs)
+
+-- the bytes of a list are the number and a byte for each member
+pub list-bytes : (on off : ℕ) → listBytes on off ≡ count (union on off) ∷ map (memberByte on) (members (union on off))
+unfolding listBytes literalsOf
+list-bytes on off = ap (λ l. count (union on off) ∷ l) (map-twice byteOf (λ v. literalOf v (has on v)) (members (union on off)))
+
+pub members-count : (m : ℕ) → m < 2 ^ 64 → length (members m) ≡ count m
+members-count m h = ap length (sym (members-below 64 m h)) ∙ members-length 64 m h
+
+pub list-length : (on off : ℕ) → union on off < 2 ^ 64 → length (listBytes on off) ≡ suc (count (union on off))
+list-length on off h = ap length (list-bytes on off) ∙ ap suc (length-map (members (union on off)) (memberByte on) ∙ members-count (union on off) h)
+
+-- the least member, and the others
+least-first : (m v : ℕ) → m < 2 ^ 64 → Least m v → members m ≡ v ∷ members (remove m v)
+least-first m v h l = sym (members-below 64 m h) ∙ members-least 64 m v h l ∙ ap (λ r. v ∷ r) (members-below 64 (remove m v) (remove-lt 64 m v h))
+
+none-left : members 0 ≡ []
+none-left = sym (members-below 0 0 (omega arith)) ∙ members-zero 0
+
+module _ (out₀ : List ℕ) (start : ℕ) (f : ℕ → ℕ) (all : ℕ) where
+  -- after some members: their bytes are stored
+  pub record Listing (out : List ℕ) (rest i : ℕ) : Type 0 where
+    pub done : List ℕ
+    pub split : members all ≡ done ++ members rest
+    pub put : Put out₀ start (map f done) out i
+    pub below : rest < 2 ^ 64
+
+  pub listing-none : all < 2 ^ 64 → Listing out₀ all start
+  listing-none h = record { done = []; split = refl; put = put-none out₀ start; below = h }
+
+  module _ {out : List ℕ} {rest i : ℕ} (w : Listing out rest i) {v : ℕ} (least : Lowest rest v) where
+    next : members all ≡ w .done ++ (v ∷ members (remove rest v))
+    next = w .split ∙ ap (λ l. w .done ++ l) (least-first rest v (w .below) (least .least))
+
+    -- there is room for one more
+    pub listing-room : start + length (members all) ≤ length out₀ → i < length out
+    listing-room h =
+        omega (arith, put-length _ (w .put), w .put .place, length-map (w .done) f, ap length next, length-append (w .done) (v ∷ members (remove rest v)))
+
+    pub listing-more : {x : ℕ} → x ≡ f v → Listing (set out i x) (remove rest v) (i + 1)
+    listing-more {x} e = record {
+      done = w .done ++ (v ∷ []);
+      split = next ∙ sym (append-assoc (w .done) (v ∷ []) (members (remove rest v)));
+      put = rw (map-append f (w .done) (v ∷ []), e) (put-append (map f (w .done)) (f v ∷ []) (w .put) (put-byte out i (f v)));
+      below = remove-lt 64 rest v (w .below);
+    }
+
+    pub listing-less : count (remove rest v) < count rest
+    listing-less = omega (arith, ones-remove rest v (least .least .member))
+
+  pub listing-all : {out : List ℕ} {rest i : ℕ} → Listing out rest i → rest ≡ 0 → Put out₀ start (map f (members all)) out i
+  listing-all w e =
+      let same : members all ≡ w .done = w .split ∙ rw (e, none-left) (append-nil (w .done)) in
+      rw same (w .put)
+
+-- the number first, and then the members
+pub listed : (a out : List ℕ) (at on off i : ℕ) → Put (set a at (count (union on off))) (at + 1) (map (memberByte on) (members (union on off))) out i → Put a at (listBytes on off) out i
+listed a out at on off i p = rw (list-bytes on off) (put-append (count (union on off) ∷ []) (map (memberByte on) (members (union on off))) (put-byte a at (count (union on off))) p)

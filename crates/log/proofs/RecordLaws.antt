@@ -1,0 +1,67 @@
+-- Writing a record, part by part.
+-- Assumes nothing.
+use mathlib.Core.Path.{_≡_, refl, sym, ap, _∙_}
+use mathlib.Core.List.{List, [], _∷_, _++_, append-assoc}
+use Prim.Native.Nat.{ℕ, _+_, _%_, _/_, _≤_, _<_}
+use native.Mathlib.Omega.{arith}
+use lib.ListN.{length, set, length-append}
+use Rattle.literals.specs.Literal.{Literal, byteOf}
+use Rattle.step.specs.Meaning.{Step}
+use Rattle.log.specs.Meaning.{ST, OK, listBytes, twoBytes, fourBytes, stepBytes, okBytes}
+use Rattle.log.specs.Contracts.{Put}
+use Rattle.log.proofs.StoreLaws.{put-append, put-byte, put-length}
+
+-- the parts of a step's record, one after the other
+abbrev pub upToGoal : Step → List ℕ
+upToGoal s = ST ++ (byteOf (s .goal) ∷ [])
+
+abbrev pub upToReasons : Step → List ℕ
+upToReasons s = upToGoal s ++ listBytes (s .reasons-on) (s .reasons-off)
+
+abbrev pub upToNew : Step → List ℕ
+upToNew s = upToReasons s ++ listBytes (s .new-on) (s .new-off)
+
+pub step-parts : (s : Step) → stepBytes s ≡ upToNew s ++ twoBytes (s .cost)
+unfolding stepBytes
+step-parts s = simp append-assoc
+
+-- how long the parts are
+pub reasons-length : (s : Step) → length (upToReasons s) ≡ 3 + length (listBytes (s .reasons-on) (s .reasons-off))
+reasons-length s = length-append (upToGoal s) (listBytes (s .reasons-on) (s .reasons-off))
+
+pub new-length : (s : Step) → length (upToNew s) ≡ 3 + length (listBytes (s .reasons-on) (s .reasons-off)) + length (listBytes (s .new-on) (s .new-off))
+new-length s = length-append (upToReasons s) (listBytes (s .new-on) (s .new-off)) ∙ ap (λ k. k + length (listBytes (s .new-on) (s .new-off))) (reasons-length s)
+
+pub step-length : (s : Step) → length (stepBytes s) ≡ 5 + length (listBytes (s .reasons-on) (s .reasons-off)) + length (listBytes (s .new-on) (s .new-off))
+unfolding twoBytes
+step-length s = omega (arith, ap length (step-parts s), length-append (upToNew s) (twoBytes (s .cost)), new-length s)
+
+module _ (a : List ℕ) (at : ℕ) (s : Step) (room : at + length (stepBytes s) ≤ length a) where
+  pub goal-room : {b : List ℕ} {k : ℕ} → Put a at ST b k → k + 1 ≤ length b
+  goal-room p = omega (arith, step-length s, p .place, put-length ST p)
+
+  pub goal-put : {b : List ℕ} {k g : ℕ} → Put a at ST b k → g ≡ byteOf (s .goal) → Put a at (upToGoal s) (set b k g) (k + 1)
+  goal-put {b} {k} {g} p e = rw e (put-append ST (byteOf (s .goal) ∷ []) p (put-byte b k (byteOf (s .goal))))
+
+  pub reasons-room : {b : List ℕ} {k : ℕ} → Put a at (upToGoal s) b k → k + length (listBytes (s .reasons-on) (s .reasons-off)) ≤ length b
+  reasons-room p = omega (arith, step-length s, p .place, put-length (upToGoal s) p)
+
+  pub new-room : {b : List ℕ} {k : ℕ} → Put a at (upToReasons s) b k → k + length (listBytes (s .new-on) (s .new-off)) ≤ length b
+  new-room p = omega (arith, step-length s, reasons-length s, p .place, put-length (upToReasons s) p)
+
+  pub cost-room : {b : List ℕ} {k : ℕ} → Put a at (upToNew s) b k → k + 2 ≤ length b
+  cost-room p = omega (arith, step-length s, new-length s, p .place, put-length (upToNew s) p)
+
+-- the record is whole with its cost
+pub step-put : {a b c : List ℕ} {at k r : ℕ} (s : Step) → Put a at (upToNew s) b k → Put b k (s .cost / 256 % 256 ∷ s .cost % 256 ∷ []) c r → Put a at (stepBytes s) c r
+unfolding twoBytes
+step-put s p q = rw (step-parts s) (put-append (upToNew s) (twoBytes (s .cost)) p q)
+
+-- the record that ends the log
+pub ok-put : {a b c : List ℕ} {at k r : ℕ} (steps total : ℕ) → Put a at OK b k → Put (set b k steps) (k + 1) (fourBytes total) c r → Put a at (okBytes steps total) c r
+unfolding okBytes
+ok-put {b = b} {k = k} steps total p q = put-append OK (steps ∷ fourBytes total) p (put-append (steps ∷ []) (fourBytes total) (put-byte b k steps) q)
+
+pub ok-length : (steps total : ℕ) → length (okBytes steps total) ≡ 7
+unfolding okBytes fourBytes
+ok-length steps total = refl

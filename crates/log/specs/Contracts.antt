@@ -1,0 +1,86 @@
+-- What the functions of the log ask and say.
+use mathlib.Core.Path.{_≡_}
+use mathlib.Core.Bool.{true, false}
+use mathlib.Core.List.{List, [], _∷_, _++_}
+use Prim.Native.Nat.{ℕ, suc, _+_, _≤_}
+use lib.IntN.{ℤ}
+use lib.ListN.{length, take, drop}
+use lib.Seq.{sets}
+use Rattle.sets.specs.Sets.{has, count}
+use Rattle.literals.specs.Literal.{Literal, byteOf}
+use Rattle.literals.specs.declared.LiteralSet.{LiteralSet}
+use Rattle.consequence.specs.Meaning.{yesForced, noForced}
+use Rattle.consequence.specs.Contracts.{problem}
+use Rattle.step.specs.Meaning.{Step, literalOf, Question, goals}
+use Rattle.step.specs.Contracts.{Asked, question}
+use Rattle.step.specs.declared.Next.{Next}
+use Rattle.step.specs.declared.Next.the-variants as Next
+use Rattle.log.specs.Meaning.{Run, done, stuck, runFrom, okBytes, logBytes, totalOf}
+use Rattle.log.specs.declared.Built.{Built}
+use Rattle.log.specs.declared.Written.{Written}
+use Rattle.log.specs.declared.Written.the-variants as Written
+
+-- The byte of a set's literal over variable v + 1, where the set says yes of `on`.
+abbrev pub memberByte : ℕ → ℕ → ℕ
+memberByte on v = byteOf (literalOf v (has on v))
+
+-- Bytes are stored one after the other from a place on, every other byte is as it was, and r is the place after them.
+pub record Put (before : List ℕ) (at : ℕ) (bytes after : List ℕ) (r : ℕ) : Type 0 where
+  pub stored : after ≡ sets before at bytes
+  pub place : r ≡ at + length bytes
+
+-- A step as its record's writer is handed it.
+abbrev pub putStep : Literal → LiteralSet → LiteralSet → ℕ → Step
+putStep goal reasons new cost =
+    record { goal = goal; reasons-on = reasons .yes; reasons-off = reasons .no; new-on = new .yes; new-off = new .no; cost = cost }
+
+-- ---- the whole log
+
+-- The run of a question: with one turn more than there are goals, the last one finds nothing left.
+unfoldable pub runOf : Question → Run
+runOf q = runFrom (suc (count (goals q))) q
+
+-- What the next step asks, where the consequence is what the given facts force.
+pub record Logs (n : ℕ) (ys ns : List ℕ) (ch : ℕ) (table : List (List ℕ)) (c facts : LiteralSet) : Type 0 where
+  pub asked : Asked n ys ns ch table c facts
+  pub yes-forced : c .yes ≡ yesForced (problem n ys ns ch) (facts .yes) (facts .no)
+  pub no-forced : c .no ≡ noForced (problem n ys ns ch) (facts .yes) (facts .no)
+
+-- The end of a log, where no step follows.
+abbrev pub Ends : List ℕ → ℕ → ℕ → ℕ → Next → Built → Type 0
+Ends bytes at steps total Next.NothingLeft r = (r .stuck ≡ false) × Put bytes at (okBytes steps total) (r .bytes) (r .length) × (r .steps ≡ steps) × (r .total ≡ total)
+Ends bytes at steps total Next.NoCandidate r = r .stuck ≡ true
+Ends bytes at steps total (Next.Step g x y k) r = r .stuck ≡ true
+
+pub record Ended (bytes : List ℕ) (at steps total : ℕ) (next : Next) (r : Built) : Type 0 where
+  pub said : Ends bytes at steps total next r
+
+-- The log that was built is that of the run.
+pub record BuiltAs (ss : List Step) (r : Built) : Type 0 where
+  pub not-stuck : r .stuck ≡ false
+  pub first-bytes : take (r .length) (r .bytes) ≡ logBytes ss
+  pub length-is : r .length ≡ length (logBytes ss)
+  pub short : r .length ≤ 547
+  pub room : length (r .bytes) ≡ 547
+  pub steps-are : r .steps ≡ length ss
+  pub total-is : r .total ≡ totalOf ss
+
+abbrev pub RunSays : Run → Built → Type 0
+RunSays (done ss) r = BuiltAs ss r
+RunSays stuck r = r .stuck ≡ true
+
+pub record Ran (run : Run) (r : Built) : Type 0 where
+  pub said : RunSays run r
+
+-- The buffer holds the log and then its old bytes, and the answer is the log's length, its steps and its total; or it is as it was.
+pub record LogWritten (ss : List Step) (before after : List ℕ) (r : Written) : Type 0 where
+  pub buffer : after ≡ logBytes ss ++ drop (length (logBytes ss)) before
+  pub answered : r ≡ Written.Log (length (logBytes ss)) (length ss) (totalOf ss)
+  pub short : length (logBytes ss) ≤ 547
+
+abbrev pub WritesAs : Run → List ℕ → List ℕ → Written → Type 0
+WritesAs (done ss) before after r = LogWritten ss before after r
+WritesAs stuck before after r = (after ≡ before) × (r ≡ Written.Stuck)
+
+pub record WrittenAs (run : Run) (before after : List ℕ) (r : Written) : Type 0 where
+  pub said : WritesAs run before after r
