@@ -2,45 +2,106 @@
 use mathlib.Core.Path.{_≡_, refl}
 use mathlib.Core.List.{List, [], _∷_, map}
 use Prim.Native.Nat.{ℕ}
-use Rattle.sets.specs.Sets.{bit, has, insert, subset, disjoint, diff}
-use Rattle.literals.specs.Literal.{variable, ofByte}
-use Rattle.literals.specs.Truth.{holds, obeys, allHold}
+use lib.Count.{ones}
+use lib.IntN.{pos, negsuc}
+use Rattle.sets.specs.Sets.{bit, has, insert, subset, disjoint, diff, membersFrom, membersBelow, members}
+use Rattle.literals.specs.Literal.{Literal, variable, ofByte, byteOf}
+use Rattle.literals.specs.Truth.{holds, obeys, allHold, yesBit, noBit, yesMask, noMask}
 use Rattle.literals.specs.declared.LiteralSet.{LiteralSet}
 use Rattle.book.specs.Format.{marked, pair, isCost, opened, rising, headerValues, headerAt, costValues, costAt, ruleValues, ruleAt, factValues, factAt, atFact, endAt, many, factsFrom, fromRules, readBook}
+use Rattle.book.specs.Answer.{table, padded}
 use Rattle.book.specs.Orders.{order-a, order-b, order-c, order-d, order-e, order-f, order-g, order-h, order-i, order-j}
 use Rattle.sat.specs.Meaning.{everyUnder, everyFilling, someFilling, obeysRules, isModel}
 use Rattle.consequence.specs.Meaning.{collect}
+use Rattle.step.specs.Examples.{computed}
+use Rattle.log.specs.Meaning.{literalsOf, listBytes, twoBytes, fourBytes, stepBytes, stepsBytes, okBytes, totalOf, logBytes, after, runFrom}
+use Rattle.log.specs.Contracts.{runOf}
 use Rattle.engine.specs.Meaning.{models, hasModel, follows, yesConsequence, noConsequence, withModel}
+use Rattle.engine.specs.Problem.{problemOf}
 use Rattle.engine.specs.Answer.{consequenceAnswer}
+use Rattle.engine.specs.Contracts.{between, stepSays}
+use Rattle.engine.specs.Steps.{stepAnswer}
+use Rattle.engine.specs.Logs.{maxLog, ofRun, logOutcome, logAnswer, bufferAfter}
 use Rattle.engine.specs.declared.ConsequenceAnswer.{ConsequenceAnswer}
-use Rattle.engine.specs.declared.ConsequenceAnswer.the-variants.{Forced, Refused}
+use Rattle.engine.specs.declared.ConsequenceAnswer.the-variants as Consequence
+use Rattle.engine.specs.declared.StepAnswer.{StepAnswer}
+use Rattle.engine.specs.declared.StepAnswer.the-variants as Next
+use Rattle.engine.specs.declared.LogAnswer.{LogAnswer}
+use Rattle.engine.specs.declared.LogAnswer.the-variants as Log
 
--- An order's bytes, and its consequence or refusal.
+abbrev set : ℕ → ℕ → LiteralSet
+set y n = record { yes = y; no = n }
+
+-- ---- the orders
+
+-- An order's bytes, its consequence or refusal, the answer of the log's call and the log's bytes, none where it refuses.
 pub record Row : Type 0 where
   pub bytes : List ℕ
   pub consequence : ConsequenceAnswer
+  pub answer : LogAnswer
+  pub log : List ℕ
 
-abbrev forced : ℕ → ℕ → ConsequenceAnswer
-forced y n = Forced (record { yes = y; no = n })
+abbrev refuses : List ℕ → ℕ → ℕ → Row
+refuses s number place = record { bytes = s; consequence = Consequence.Refused number place; answer = Log.Refused number place; log = [] }
 
-abbrev row : List ℕ → ConsequenceAnswer → Row
-row s c = record { bytes = s; consequence = c }
+abbrev logs : List ℕ → LiteralSet → ℕ → ℕ → ℕ → List ℕ → Row
+logs s c length steps total bytes = record { bytes = s; consequence = Consequence.Forced c; answer = Log.Written length steps total; log = bytes }
 
 -- In c the consequence is 1 2 3 4, in d 1, in g -1, in h 1, in i 1 2 3.
 unfoldable pub orders : List Row
 orders =
-    row order-a (Refused 1 0)
-    ∷ row order-b (forced 0 0)
-    ∷ row order-c (forced 15 0)
-    ∷ row order-d (forced 1 0)
-    ∷ row order-e (Refused 9 0)
-    ∷ row order-f (Refused 9 0)
-    ∷ row order-g (forced 0 1)
-    ∷ row order-h (forced 1 0)
-    ∷ row order-i (forced 7 0)
-    ∷ row order-j (Refused 6 12)
+    refuses order-a 1 0
+    ∷ logs order-b (set 0 0) 7 0 0 (0x4F ∷ 0x4B ∷ 0 ∷ 0 ∷ 0 ∷ 0 ∷ 0 ∷ [])
+    ∷ logs order-c (set 15 0) 26 2 20
+    (0x53 ∷ 0x54 ∷ 2 ∷ 1 ∷ 1 ∷ 1 ∷ 2 ∷ 0 ∷ 8 ∷ 0x53 ∷ 0x54 ∷ 4 ∷ 2 ∷ 2 ∷ 3 ∷ 1 ∷ 4 ∷ 0 ∷ 12 ∷ 0x4F ∷ 0x4B ∷ 2 ∷ 0 ∷ 0 ∷ 0 ∷ 20 ∷ [])
+    ∷ logs order-d (set 1 0) 15 1 9 (0x53 ∷ 0x54 ∷ 1 ∷ 0 ∷ 1 ∷ 1 ∷ 0 ∷ 9 ∷ 0x4F ∷ 0x4B ∷ 1 ∷ 0 ∷ 0 ∷ 0 ∷ 9 ∷ [])
+    ∷ refuses order-e 9 0
+    ∷ refuses order-f 9 0
+    ∷ logs order-g (set 0 1) 15 1 5 (0x53 ∷ 0x54 ∷ 0xFF ∷ 0 ∷ 1 ∷ 0xFF ∷ 0 ∷ 5 ∷ 0x4F ∷ 0x4B ∷ 1 ∷ 0 ∷ 0 ∷ 0 ∷ 5 ∷ [])
+    ∷ logs order-h (set 1 0) 7 0 0 (0x4F ∷ 0x4B ∷ 0 ∷ 0 ∷ 0 ∷ 0 ∷ 0 ∷ [])
+    ∷ logs order-i (set 7 0) 17 1 2 (0x53 ∷ 0x54 ∷ 2 ∷ 1 ∷ 1 ∷ 2 ∷ 2 ∷ 3 ∷ 0 ∷ 2 ∷ 0x4F ∷ 0x4B ∷ 1 ∷ 0 ∷ 0 ∷ 0 ∷ 2 ∷ [])
+    ∷ refuses order-j 6 12
     ∷ []
 
-pub orders-agree : map (λ (r : Row). consequenceAnswer (readBook (r .bytes))) orders ≡ map (λ (r : Row). r .consequence) orders
-unfolding orders order-a order-b order-c order-d order-e order-f order-g order-h order-i order-j consequenceAnswer withModel yesConsequence noConsequence follows hasModel models collect isModel obeysRules someFilling everyFilling everyUnder holds obeys allHold bit has insert subset disjoint diff readBook fromRules factsFrom many endAt atFact factAt factValues ruleAt ruleValues costAt costValues headerAt headerValues rising opened isCost pair marked variable ofByte
+-- What the meanings say of an order's bytes, with a buffer of 547 bytes.
+unfoldable pub meant : List ℕ → Row
+meant s =
+    record {
+      bytes = s;
+      consequence = consequenceAnswer (readBook s);
+      answer = logAnswer (logOutcome maxLog (readBook s));
+      log = bufferAfter (logOutcome maxLog (readBook s)) [];
+    }
+
+pub orders-agree : map (λ (r : Row). meant (r .bytes)) orders ≡ orders
+unfolding orders meant computed order-a order-b order-c order-d order-e order-f order-g order-h order-i order-j consequenceAnswer logOutcome logAnswer bufferAfter ofRun runOf runFrom after logBytes totalOf okBytes stepsBytes stepBytes listBytes literalsOf twoBytes fourBytes withModel problemOf table padded yesConsequence noConsequence follows hasModel models collect isModel obeysRules someFilling everyFilling everyUnder holds obeys allHold bit has insert subset disjoint diff readBook fromRules factsFrom many endAt atFact factAt factValues ruleAt ruleValues costAt costValues headerAt headerValues rising opened isCost pair marked variable ofByte byteOf yesMask yesBit noMask noBit members membersBelow membersFrom ones
 orders-agree = refl
+
+-- ---- single steps
+
+-- An order's bytes, a known set, and the answer of the next step's call.
+pub record StepRow : Type 0 where
+  pub bytes : List ℕ
+  pub yes : ℕ
+  pub no : ℕ
+  pub answer : StepAnswer
+
+abbrev from : List ℕ → ℕ → ℕ → StepAnswer → StepRow
+from s y n a = record { bytes = s; yes = y; no = n; answer = a }
+
+-- P from 1 3, from 1 2 3, from 1 2 3 4 (nothing left) and from 1 alone, without fact 3 (10); then d, g, h and i from their facts.
+unfoldable pub steps : List StepRow
+steps =
+    from order-c 5 0 (Next.Step (pos 2) (set 1 0) (set 2 0) 8)
+    ∷ from order-c 7 0 (Next.Step (pos 4) (set 6 0) (set 8 0) 12)
+    ∷ from order-c 15 0 Next.NothingLeft
+    ∷ from order-c 1 0 (Next.Refused 10 0)
+    ∷ from order-d 0 0 (Next.Step (pos 1) (set 0 0) (set 1 0) 9)
+    ∷ from order-g 0 0 (Next.Step (negsuc 0) (set 0 0) (set 0 1) 5)
+    ∷ from order-h 1 0 Next.NothingLeft
+    ∷ from order-i 1 0 (Next.Step (pos 2) (set 1 0) (set 6 0) 2)
+    ∷ []
+
+pub steps-agree : map (λ (r : StepRow). from (r .bytes) (r .yes) (r .no) (stepAnswer (r .yes) (r .no) (readBook (r .bytes)))) steps ≡ steps
+unfolding steps computed order-c order-d order-g order-h order-i stepAnswer stepSays between withModel problemOf table padded yesConsequence noConsequence follows hasModel models collect isModel obeysRules someFilling everyFilling everyUnder holds obeys allHold bit has insert subset disjoint diff readBook fromRules factsFrom many endAt atFact factAt factValues ruleAt ruleValues costAt costValues headerAt headerValues rising opened isCost pair marked variable ofByte yesMask yesBit noMask noBit
+steps-agree = refl
