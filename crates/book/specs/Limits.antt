@@ -20,3 +20,7 @@ maxCost = 999
 -- The literals of one rule, at most.
 abbrev pub maxLiterals : ℕ
 maxLiterals = 8
+
+-- The bytes of a log, at most: 20 × 27 + 7.
+abbrev pub maxLog : ℕ
+maxLog = 547

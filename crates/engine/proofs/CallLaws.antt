@@ -8,6 +8,7 @@ use lib.Dec.{ltb}
 use borrow.Author.Tests.{lt-ltb}
 use lib.ListN.{length, take, drop}
 use lib.Seq.{take-at}
+use Rattle.book.specs.Limits.{maxLog}
 use Rattle.book.specs.Format.{Read, value, refused, OrderBook, readBook}
 use Rattle.book.proofs.WellFormed.{WellFormed}
 use Rattle.step.specs.Meaning.{Step}
@@ -15,7 +16,7 @@ use Rattle.log.specs.Meaning.{Run, done, stuck, logBytes, totalOf}
 use Rattle.log.specs.Contracts.{runOf}
 use Rattle.engine.specs.Meaning.{hasModel, withModel}
 use Rattle.engine.specs.Steps.{given, questionOf}
-use Rattle.engine.specs.Logs.{LogOutcome, logged, refusedWith, ofRun, maxLog, logOutcome, logAnswer, bufferAfter, LoggedAs, Explained, Explains, Logged}
+use Rattle.engine.specs.Logs.{LogOutcome, logged, refusedWith, ofRun, logOutcome, logAnswer, bufferAfter, LoggedAs, Explained, Explains, Logged}
 use Rattle.engine.specs.declared.LogAnswer.{LogAnswer}
 use Rattle.engine.specs.declared.LogAnswer.the-variants as LogAnswer
 use Rattle.engine.proofs.LogLaws.{logged-refused}

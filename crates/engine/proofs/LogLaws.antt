@@ -15,6 +15,7 @@ use Rattle.sets.specs.Sets.{bit, full, Within}
 use Rattle.sets.specs.Laws.Bits.{bit-le, bit-full, member-lt}
 use Rattle.literals.specs.Truth.{yesMask, noMask}
 use Rattle.literals.specs.declared.LiteralSet.{LiteralSet}
+use Rattle.book.specs.Limits.{maxLog}
 use Rattle.book.specs.Format.{Read, value, refused, OrderBook}
 use Rattle.book.specs.Answer.{kept, table}
 use Rattle.book.proofs.WellFormed.{WellFormed}
@@ -30,7 +31,7 @@ use Rattle.engine.specs.Meaning.{hasModel, withModel}
 use Rattle.engine.specs.Problem.{problemOf, posed-from}
 use Rattle.engine.specs.Contracts.{problemIn, forcedIn, Loggable, logQuestion, Logging}
 use Rattle.engine.specs.Steps.{given, consequenceOf, questionOf}
-use Rattle.engine.specs.Logs.{LogOutcome, logged, refusedWith, ofRun, maxLog, logOutcome, logAnswer, bufferAfter, LoggedAs, Explained, Explains, Logged, logIn}
+use Rattle.engine.specs.Logs.{LogOutcome, logged, refusedWith, ofRun, logOutcome, logAnswer, bufferAfter, LoggedAs, Explained, Explains, Logged, logIn}
 use Rattle.engine.specs.declared.problem.Posing.{Posing}
 use Rattle.engine.specs.declared.LogAnswer.{LogAnswer}
 use Rattle.engine.specs.declared.LogAnswer.the-variants as LogAnswer

@@ -6,6 +6,7 @@ use Prim.Native.Nat.{ℕ}
 use lib.Dec.{ltb}
 use lib.ListN.{length, take, drop}
 use Rattle.literals.specs.declared.LiteralSet.{LiteralSet}
+use Rattle.book.specs.Limits.{maxLog}
 use Rattle.book.specs.Format.{Read, value, refused, OrderBook, readBook}
 use Rattle.consequence.specs.Meaning.{contradicts}
 use Rattle.step.specs.Meaning.{Step}
@@ -28,10 +29,6 @@ pub data LogOutcome : Type 0 where
 unfoldable pub ofRun : Run → LogOutcome
 ofRun (done ss) = logged ss
 ofRun stuck = refusedWith 11 0
-
--- The bytes that a log may need.
-abbrev pub maxLog : ℕ
-maxLog = 547
 
 -- After the book come 8, 9 and 11 in that order.
 unfoldable pub logOutcome : ℕ → Read OrderBook → LogOutcome

@@ -8,6 +8,7 @@ use Rattle.sets.specs.Sets.{bit, has, insert, subset, disjoint, diff, membersFr
 use Rattle.literals.specs.Literal.{Literal, variable, ofByte, byteOf}
 use Rattle.literals.specs.Truth.{holds, obeys, allHold, yesBit, noBit, yesMask, noMask}
 use Rattle.literals.specs.declared.LiteralSet.{LiteralSet}
+use Rattle.book.specs.Limits.{maxLog}
 use Rattle.book.specs.Format.{marked, pair, isCost, opened, rising, headerValues, headerAt, costValues, costAt, ruleValues, ruleAt, factValues, factAt, atFact, endAt, many, factsFrom, fromRules, readBook}
 use Rattle.book.specs.Answer.{table, padded}
 use Rattle.book.specs.Orders.{order-a, order-b, order-c, order-d, order-e, order-f, order-g, order-h, order-i, order-j}
@@ -21,7 +22,7 @@ use Rattle.engine.specs.Problem.{problemOf}
 use Rattle.engine.specs.Answer.{consequenceAnswer}
 use Rattle.engine.specs.Contracts.{between, stepSays}
 use Rattle.engine.specs.Steps.{stepAnswer}
-use Rattle.engine.specs.Logs.{maxLog, ofRun, logOutcome, logAnswer, bufferAfter}
+use Rattle.engine.specs.Logs.{ofRun, logOutcome, logAnswer, bufferAfter}
 use Rattle.engine.specs.declared.ConsequenceAnswer.{ConsequenceAnswer}
 use Rattle.engine.specs.declared.ConsequenceAnswer.the-variants as Consequence
 use Rattle.engine.specs.declared.StepAnswer.{StepAnswer}

@@ -1,5 +1,6 @@
 // The public calls. Each is handed the book's bytes and reads them first; none asks anything of its caller.
 ghost use mathlib.Core.Path.{_≡_};
+ghost use Rattle.book.specs.Limits.{maxLog};
 ghost use Rattle.book.specs.Format.{readBook};
 ghost use Rattle.book.specs.Answer.{bookAnswer, tableAnswer};
 ghost use Prim.Native.Nat.{_≤_};
@@ -274,7 +275,7 @@ pub fn log(s: &[u8], buffer: &mut [u8]) -> LogAnswer
 // The log of a problem into a buffer that has room, or refusal 9 or 11.
 fn log_of(p: Posing, costs: [[u16; 2]; Book::MAX_CHOICES], buffer: &mut [u8]) -> LogAnswer
     requires { ⌜ Loggable p costs ⌝ }
-    requires { ⌜ 547 ≤ length (now buffer) ⌝ }
+    requires { ⌜ maxLog ≤ length (now buffer) ⌝ }
     ensures { λ r. ⌜ LoggedAs (logIn p costs) (now (buffer .entry)) (now (buffer .exit)) r ⌝ }
 {
     match propagate(p) {
@@ -291,7 +292,7 @@ fn write_log(
     buffer: &mut [u8],
 ) -> LogAnswer
     requires { ⌜ Logging p costs forced ⌝ }
-    requires { ⌜ 547 ≤ length (now buffer) ⌝ }
+    requires { ⌜ maxLog ≤ length (now buffer) ⌝ }
     ensures { λ r. ⌜ LoggedAs (ofRun (runOf (logQuestion p costs forced))) (now (buffer .entry)) (now (buffer .exit)) r ⌝ }
 {
     let yes = p.yes;

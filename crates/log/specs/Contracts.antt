@@ -9,6 +9,7 @@ use lib.Seq.{sets}
 use Rattle.sets.specs.Sets.{has, count}
 use Rattle.literals.specs.Literal.{Literal, byteOf}
 use Rattle.literals.specs.declared.LiteralSet.{LiteralSet}
+use Rattle.book.specs.Limits.{maxLog}
 use Rattle.consequence.specs.Meaning.{yesForced, noForced}
 use Rattle.consequence.specs.Contracts.{problem}
 use Rattle.step.specs.Meaning.{Step, literalOf, Question, goals}
@@ -60,8 +61,8 @@ pub record BuiltAs (ss : List Step) (r : Built) : Type 0 where
   pub not-stuck : r .stuck ≡ false
   pub first-bytes : take (r .length) (r .bytes) ≡ logBytes ss
   pub length-is : r .length ≡ length (logBytes ss)
-  pub short : r .length ≤ 547
-  pub room : length (r .bytes) ≡ 547
+  pub short : r .length ≤ maxLog
+  pub room : length (r .bytes) ≡ maxLog
   pub steps-are : r .steps ≡ length ss
   pub total-is : r .total ≡ totalOf ss
 
@@ -76,7 +77,7 @@ pub record Ran (run : Run) (r : Built) : Type 0 where
 pub record LogWritten (ss : List Step) (before after : List ℕ) (r : Written) : Type 0 where
   pub buffer : after ≡ logBytes ss ++ drop (length (logBytes ss)) before
   pub answered : r ≡ Written.Log (length (logBytes ss)) (length ss) (totalOf ss)
-  pub short : length (logBytes ss) ≤ 547
+  pub short : length (logBytes ss) ≤ maxLog
 
 abbrev pub WritesAs : Run → List ℕ → List ℕ → Written → Type 0
 WritesAs (done ss) before after r = LogWritten ss before after r

@@ -4,6 +4,7 @@ ghost use mathlib.Core.Bool.{true};
 ghost use mathlib.Core.List.{[], _∷_, _++_};
 ghost use Prim.Native.Nat.{_+_, _<_, _≤_};
 ghost use lib.ListN.{length, take, drop};
+ghost use Rattle.book.specs.Limits.{maxLog};
 ghost use Rattle.step.specs.Contracts.{question};
 ghost use Rattle.log.specs.Meaning.{listBytes, fourBytes, stepBytes, okBytes};
 ghost use Rattle.log.specs.Contracts.{Put, memberByte, putStep, Ended, Logs, runOf, Ran, WrittenAs};
@@ -196,9 +197,9 @@ pub fn build(
 
 // The first bytes of a log into a buffer; the bytes beyond keep their contents.
 fn copy(buffer: &mut [u8], bytes: [u8; Book::MAX_LOG], count: usize)
-    requires { ⌜ count ≤ 547 ⌝ }
-    requires { ⌜ length bytes ≡ 547 ⌝ }
-    requires { ⌜ 547 ≤ length (now buffer) ⌝ }
+    requires { ⌜ count ≤ maxLog ⌝ }
+    requires { ⌜ length bytes ≡ maxLog ⌝ }
+    requires { ⌜ maxLog ≤ length (now buffer) ⌝ }
     ensures { λ _. ⌜ now (buffer .exit) ≡ take count bytes ++ drop count (now (buffer .entry)) ⌝ }
 {
     let mut i = 0;
@@ -220,7 +221,7 @@ pub fn write(
     buffer: &mut [u8],
 ) -> Written
     requires { ⌜ Logs n (now yes) (now no) choices costs consequence facts ⌝ }
-    requires { ⌜ 547 ≤ length (now buffer) ⌝ }
+    requires { ⌜ maxLog ≤ length (now buffer) ⌝ }
     ensures { λ r. ⌜ WrittenAs (runOf (question n (now (yes .entry)) (now (no .entry)) choices costs consequence facts)) (now (buffer .entry)) (now (buffer .exit)) r ⌝ }
 {
     let built = build(n, yes, no, choices, costs, consequence, facts);
