@@ -3,7 +3,7 @@
 use mathlib.Core.Path.{_≡_, refl, sym, ap, _∙_}
 use mathlib.Core.Bool.{Bool, true, false, not, cond, _&&_, _||_, true≢false, false≢true}
 use mathlib.Core.Logic.{_≢_}
-use Prim.Native.Nat.{ℕ, zero, suc, _≤_, _<_, _^_}
+use Prim.Native.Nat.{ℕ, zero, suc, _+_, _≤_, _<_, _^_}
 use native.Mathlib.Nat.{pow-suc}
 use native.Mathlib.Decide.{ℕ-discrete}
 use native.Mathlib.Omega.{arith}
@@ -189,3 +189,21 @@ module _ (p : Problem) (on off : ℕ) where
 
   pub exactly-no : (m : ℕ) → Exactly p on off 0 m → m ≡ noForced p on off
   exactly-no m x = exactly-unique p on off 0 m _ x no-exactly
+
+  -- every model of a set makes all that the set forces true
+  pub forced-model : (f : ℕ) → ModelOf p on off f → ModelOf p (yesForced p on off) (noForced p on off) f
+  forced-model f m =
+      record {
+        below = m .below;
+        keeps = record { keeps = λ v. yes-in v (ℕ-discrete (bit (yesForced p on off) v) 1) };
+        avoids = record { avoids = λ v. no-in v (ℕ-discrete (bit (noForced p on off) v) 1) };
+        obeyed = m .obeyed;
+      }
+    where
+      yes-in : (v : ℕ) → Dec (bit (yesForced p on off) v ≡ 1) → bit (yesForced p on off) v ≤ bit f v
+      yes-in v (yes e) = omega (arith, e, yes-exactly .sound v e .1 f m)
+      yes-in v (no e) = omega (arith, bit-le (yesForced p on off) v)
+
+      no-in : (v : ℕ) → Dec (bit (noForced p on off) v ≡ 1) → bit (noForced p on off) v + bit f v ≤ 1
+      no-in v (yes e) = omega (arith, e, no-exactly .sound v e .1 f m)
+      no-in v (no e) = omega (arith, bit-le (noForced p on off) v, bit-le f v)

@@ -304,9 +304,6 @@ module _ {b : OrderBook} (w : WellFormed b) (some : hasModel b ≡ true) where
             clash f (is .variable) (is .says) (rw (is .goal-said) at (is .forced f (to-model _ _ f reasons-apart h o (t .1)))) (rw (is .goal-said) at (t .0))
 
     -- costs
-    few-costs : length (b .costs) ≤ 20
-    few-costs = omega (arith, w .cost-count, w .few-choices)
-
     costs-among : length (b .costs) ≤ b .header .variables
     costs-among = omega (arith, w .cost-count, w .choices-among)
 
@@ -333,7 +330,7 @@ module _ {b : OrderBook} (w : WellFormed b) (some : hasModel b ≡ true) where
     cost-theirs =
         let g = goal-at (is .variable) (is .says) (is .is-candidate .goal) in
         rw (is .goal-said) (is .cost-said
-        ∙ opposite-cost b (b .header .variables) (s .reasons-on) (s .reasons-off) few-costs
+        ∙ opposite-cost b (b .header .variables) (s .reasons-on) (s .reasons-off)
         (inside _ (λ v. omega (arith, is .is-candidate .on-known .keeps v, a .known-yes .keeps v, a .yes-choices .keeps v)))
         (inside _ (λ v. omega (arith, is .is-candidate .off-known .keeps v, a .known-no .keeps v, a .no-choices .keeps v)))
         costs-among reasons-apart (is .variable) (is .says) (omega (arith, choice-below _ (g .0), w .cost-count))
@@ -395,7 +392,7 @@ module _ {b : OrderBook} (w : WellFormed b) (some : hasModel b ≡ true) where
             omega (
               arith,
               is .cheapest _ _ v says candidature,
-              opposite-le b (b .header .variables) set few-costs costs-among set-choices v says (omega (arith, choice-below _ (goal-at v says g .0), w .cost-count)),
+              opposite-le b (b .header .variables) set costs-among set-choices v says (omega (arith, choice-below _ (goal-at v says g .0), w .cost-count)),
             )
 
       cheapest : (g : Literal) → Unknown b ks g → Always b g → Contradicts b (negℤ g ∷ set) → s .cost ≤ costOfSet b (negℤ g ∷ set)

@@ -321,14 +321,14 @@ abbrev pub column : Literal → ℕ
 column (pos v) = 0
 column (negsuc v) = 1
 
-pub literal-cost : (b : OrderBook) (l : Literal) → 0 < variable l → variable l ≤ length (b .costs) → length (b .costs) ≤ 20
+pub literal-cost : (b : OrderBook) (l : Literal) → 0 < variable l → variable l ≤ length (b .costs)
     → costOfLiteral b l ≡ costOf (table (b .costs)) (variable l - 1) (column l)
 unfolding variable
-literal-cost b (pos zero) p h k = absurd (omega arith)
-literal-cost b (pos (suc v)) p h k =
+literal-cost b (pos zero) p h = absurd (omega arith)
+literal-cost b (pos (suc v)) p h =
     let e : suc v - 1 ≡ v = omega arith in
     literal-cost-yes b v h ∙ ap (λ (u : ℕ). costOf (table (b .costs)) u 0) (sym e)
-literal-cost b (negsuc v) p h k =
+literal-cost b (negsuc v) p h =
     let e : suc v - 1 ≡ v = omega arith in
     literal-cost-no b v h ∙ ap (λ (u : ℕ). costOf (table (b .costs)) u 1) (sym e)
 
@@ -368,17 +368,17 @@ none-cost t n =
 abbrev pub Choices : OrderBook → List Literal → Type 0
 Choices b ls = (l : Literal) → In l ls → (0 < variable l) × (variable l ≤ length (b .costs))
 
-pub mask-cost : (b : OrderBook) (n : ℕ) (ls : List Literal) → length (b .costs) ≤ 20 → length (b .costs) ≤ n → Choices b ls
+pub mask-cost : (b : OrderBook) (n : ℕ) (ls : List Literal) → length (b .costs) ≤ n → Choices b ls
     → setCost (table (b .costs)) n (yesMask ls) (noMask ls) ≤ costOfSet b ls
 unfolding yesMask noMask costOfSet
-mask-cost b n [] k h c = omega (arith, none-cost (table (b .costs)) n)
-mask-cost b n (l ∷ ls) k h c =
+mask-cost b n [] h c = omega (arith, none-cost (table (b .costs)) n)
+mask-cost b n (l ∷ ls) h c =
     let at = c l (List·Memᴰ·head refl) in
     omega (
       arith,
       union-cost-le (table (b .costs)) n (yesBit l) (noBit l) (yesMask ls) (noMask ls),
       bits-cost b n l (at .0) (at .1) h,
-      mask-cost b n ls k h (λ x m. c x (List·Memᴰ·tail m)),
+      mask-cost b n ls h (λ x m. c x (List·Memᴰ·tail m)),
     )
 
 -- a list that rises
@@ -466,9 +466,9 @@ again-cost b n on off p q h =
     signed-cost b n (has on) 0 (members (union on off)) h (rising-members (union on off))
     (λ v m. member-lt _ (union on off) v (members-in (union on off) v m) (union-lt _ on off p q))
 
-pub list-cost : (b : OrderBook) (n on off : ℕ) → length (b .costs) ≤ 20 → on < 2 ^ length (b .costs) → off < 2 ^ length (b .costs) → length (b .costs) ≤ n
+pub list-cost : (b : OrderBook) (n on off : ℕ) → on < 2 ^ length (b .costs) → off < 2 ^ length (b .costs) → length (b .costs) ≤ n
     → Apart on off → setCost (table (b .costs)) n on off ≡ costOfSet b (literalsOf on off)
-list-cost b n on off k p q h a =
+list-cost b n on off p q h a =
     sym (ap₂ (λ (x : ℕ) (y : ℕ). setCost (table (b .costs)) n x y) (yes-again on off) (no-again on off a)) ∙ again-cost b n on off p q h
 
 -- ---- with the opposite of a literal
@@ -487,20 +487,20 @@ opposite-literal : (v : ℕ) (says : Bool) → negℤ (literalOf v says) ≡ lit
 opposite-literal v true = refl
 opposite-literal v false = refl
 
-pub opposite-cost : (b : OrderBook) (n on off : ℕ) → length (b .costs) ≤ 20 → on < 2 ^ length (b .costs) → off < 2 ^ length (b .costs)
+pub opposite-cost : (b : OrderBook) (n on off : ℕ) → on < 2 ^ length (b .costs) → off < 2 ^ length (b .costs)
     → length (b .costs) ≤ n → Apart on off → (v : ℕ) (says : Bool) → v < length (b .costs) → bit on v ≡ 0 → bit off v ≡ 0
     → setCost (table (b .costs)) n (oppositeOn says on v) (oppositeOff says off v) ≡ costOfSet b (negℤ (literalOf v says) ∷ literalsOf on off)
 unfolding costOfSet
-opposite-cost b n on off k p q h a v says l x y =
+opposite-cost b n on off p q h a v says l x y =
     ap₂ (λ (i : ℕ) (j : ℕ). setCost (table (b .costs)) n i j) (opposite-on says on v) (opposite-off says off v)
     ∙ more-cost b n v (not says) on off h l x y
-    ∙ ap₂ (λ (i : Literal) (j : ℕ). costOfLiteral b i + j) (sym (opposite-literal v says)) (list-cost b n on off k p q h a)
+    ∙ ap₂ (λ (i : Literal) (j : ℕ). costOfLiteral b i + j) (sym (opposite-literal v says)) (list-cost b n on off p q h a)
 
-pub opposite-le : (b : OrderBook) (n : ℕ) (ls : List Literal) → length (b .costs) ≤ 20 → length (b .costs) ≤ n → Choices b ls
+pub opposite-le : (b : OrderBook) (n : ℕ) (ls : List Literal) → length (b .costs) ≤ n → Choices b ls
     → (v : ℕ) (says : Bool) → v < length (b .costs)
     → setCost (table (b .costs)) n (oppositeOn says (yesMask ls) v) (oppositeOff says (noMask ls) v) ≤ costOfSet b (negℤ (literalOf v says) ∷ ls)
 unfolding costOfSet
-opposite-le b n ls k h c v says l =
+opposite-le b n ls h c v says l =
     let e = variable-signed v (not says) in
     omega (
       arith,
@@ -508,5 +508,5 @@ opposite-le b n ls k h c v says l =
       union-cost-le (table (b .costs)) n (yesBit (literalOf v (not says))) (noBit (literalOf v (not says))) (yesMask ls) (noMask ls),
       bits-cost b n (literalOf v (not says)) (omega arith) (omega arith) h,
       ap (costOfLiteral b) (opposite-literal v says),
-      mask-cost b n ls k h c,
+      mask-cost b n ls h c,
     )

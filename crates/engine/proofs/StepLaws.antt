@@ -25,7 +25,7 @@ use Rattle.sat.specs.Meaning.{Model, NoModel}
 use Rattle.sat.specs.Contracts.{Posed}
 use Rattle.consequence.specs.Meaning.{Problem, contradicts, yesForced, noForced}
 use Rattle.consequence.specs.Contracts.{problem}
-use Rattle.consequence.specs.Laws.{ModelOf, Exactly, yes-exactly, no-exactly, contradicts-not, contradicts-none, none-contradicts, model-contradicts}
+use Rattle.consequence.specs.Laws.{ModelOf, Exactly, yes-exactly, no-exactly, forced-model, contradicts-not, contradicts-none, none-contradicts, model-contradicts}
 use Rattle.step.specs.Meaning.{Question, Answer, nothingLeft, noCandidate, step, stepOf, costOf}
 use Rattle.step.specs.Contracts.{Asked, question, answer}
 use Rattle.step.specs.declared.Next.{Next}
@@ -98,24 +98,6 @@ module _ (p : Posing) {r : ConsequenceAnswer} where
 
   pub found-set : {two : LiteralSet} → FoundForced p r → r ≡ ConsequenceAnswer.Forced two → (contradicts (problemIn p) (p .facts .yes) (p .facts .no) ≡ false) × (two ≡ forcedIn p)
   found-set {two} f e = let s = (rw e at f) .said in (s .0, ap₂ (λ y n. record { yes = y; no = n }) (s .1) (s .2))
-
--- every model of the given facts makes all that they force true
-module _ (p : Problem) (on off : ℕ) where
-  pub forced-model : (f : ℕ) → ModelOf p on off f → ModelOf p (yesForced p on off) (noForced p on off) f
-  forced-model f m = record {
-    below = m .below;
-    keeps = record { keeps = λ v. yes-in v (ℕ-discrete (bit (yesForced p on off) v) 1) };
-    avoids = record { avoids = λ v. no-in v (ℕ-discrete (bit (noForced p on off) v) 1) };
-    obeyed = m .obeyed;
-  }
-    where
-      yes-in : (v : ℕ) → Dec (bit (yesForced p on off) v ≡ 1) → bit (yesForced p on off) v ≤ bit f v
-      yes-in v (yes e) = omega (arith, e, yes-exactly p on off .sound v e .1 f m)
-      yes-in v (no e) = omega (arith, bit-le (yesForced p on off) v)
-
-      no-in : (v : ℕ) → Dec (bit (noForced p on off) v ≡ 1) → bit (noForced p on off) v + bit f v ≤ 1
-      no-in v (yes e) = omega (arith, e, no-exactly p on off .sound v e .1 f m)
-      no-in v (no e) = omega (arith, bit-le (noForced p on off) v, bit-le f v)
 
 -- ---- what the next step asks
 

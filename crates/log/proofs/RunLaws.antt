@@ -19,7 +19,7 @@ use Rattle.literals.specs.declared.LiteralSet.{LiteralSet}
 use Rattle.sat.specs.Meaning.{Model}
 use Rattle.consequence.specs.Meaning.{Problem, yesForced, noForced}
 use Rattle.consequence.specs.Contracts.{problem}
-use Rattle.consequence.specs.Laws.{Exactly, yes-exactly, no-exactly, ModelOf}
+use Rattle.consequence.specs.Laws.{Exactly, yes-exactly, no-exactly, ModelOf, forced-model}
 use Rattle.step.specs.Meaning.{Question, Step, Answer, nothingLeft, noCandidate, step, stepOf, literalOf, goals, yesGoals, noGoals}
 use Rattle.step.specs.Contracts.{Asked, question, answer}
 use Rattle.step.specs.Theorems.{Sound, IsStep, Gained, Goal, asked-sound, step-is}
@@ -101,20 +101,7 @@ module _ {n : ℕ} {ys ns : List ℕ} {ch : ℕ} {table : List (List ℕ)} {c fa
 
   -- every model of the given facts makes all of the consequence true
   consequence-model : (f : ℕ) → ModelOf (problem n ys ns ch) (facts .yes) (facts .no) f → ModelOf (problem n ys ns ch) (c .yes) (c .no) f
-  consequence-model f m = record {
-    below = m .below;
-    keeps = record { keeps = λ v. yes-in v (ℕ-discrete (bit (c .yes) v) 1) };
-    avoids = record { avoids = λ v. no-in v (ℕ-discrete (bit (c .no) v) 1) };
-    obeyed = m .obeyed;
-  }
-    where
-      yes-in : (v : ℕ) → Dec (bit (c .yes) v ≡ 1) → bit (c .yes) v ≤ bit f v
-      yes-in v (yes e) = omega (arith, e, yes-exactly (problem n ys ns ch) (facts .yes) (facts .no) .sound v (sym (ap (λ x. bit x v) (lg .yes-forced)) ∙ e) .1 f m)
-      yes-in v (no e) = omega (arith, bit-le (c .yes) v)
-
-      no-in : (v : ℕ) → Dec (bit (c .no) v ≡ 1) → bit (c .no) v + bit f v ≤ 1
-      no-in v (yes e) = omega (arith, e, no-exactly (problem n ys ns ch) (facts .yes) (facts .no) .sound v (sym (ap (λ x. bit x v) (lg .no-forced)) ∙ e) .1 f m)
-      no-in v (no e) = omega (arith, bit-le (c .no) v, bit-le f v)
+  consequence-model f m = rw (lg .yes-forced, lg .no-forced) (forced-model (problem n ys ns ch) (facts .yes) (facts .no) f m)
 
   module _ {known : LiteralSet} (a : Asked n ys ns ch table c known) {s : Step} (e : stepOf (question n ys ns ch table c known) ≡ step s) where
     is : IsStep (question n ys ns ch table c known) s
