@@ -1,9 +1,10 @@
 // The reader's answer held against the reckoning, or against a number and a place.
-use crate::build::Draft;
-use crate::reckon;
-use crate::reckon::Reckoned;
 use book::Book;
 use book::Outcome;
+use samples::build;
+use samples::build::Draft;
+use samples::reckon;
+use samples::reckon::Reckoned;
 
 // Of a group: how many books were tried, at how many reader and reckoning differed, at how many the reader was not as
 // expected. Of all groups: how many books were reckoned good (entry 0) or refused with each number.
@@ -45,11 +46,6 @@ fn says(outcome: Outcome, number: u8, place: usize) -> bool {
             if found == number { at == place } else { false }
         }
     }
-}
-
-// The first bytes, as many as are asked for.
-fn part(s: &[u8], len: usize) -> &[u8] {
-    if len <= s.len() { &s[0..len] } else { s }
 }
 
 fn same_masks(a: [u64; 128], b: [u64; 128]) -> bool {
@@ -143,7 +139,7 @@ fn noted(mut t: Tally, number: u8) -> Tally {
 // One more book, held against the reckoning.
 pub fn count(t: Tally, d: Draft) -> Tally {
     let bytes = d.bytes;
-    let s = part(&bytes, d.len);
+    let s = build::part(&bytes, d.len);
     let due = reckon::reckon(s);
     let mut after = noted(t, due.number);
     if !agrees(s, due) {
@@ -155,7 +151,7 @@ pub fn count(t: Tally, d: Draft) -> Tally {
 // One more book, held against the reckoning and against a number and a place.
 pub fn expect(mut t: Tally, d: Draft, number: u8, place: usize) -> Tally {
     let bytes = d.bytes;
-    if !answers(part(&bytes, d.len), number, place) {
+    if !answers(build::part(&bytes, d.len), number, place) {
         t.unexpected = std::num::wrapping_add_u64(t.unexpected, 1);
     }
     count(t, d)

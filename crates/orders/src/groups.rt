@@ -1,10 +1,10 @@
 // Groups of many books, each held against the reckoning.
-use crate::build;
-use crate::build::Draft;
 use crate::compare;
 use crate::compare::Tally;
-use crate::edits;
-use crate::random;
+use samples::build;
+use samples::build::Draft;
+use samples::edits;
+use samples::random;
 
 // Every prefix of a book, the whole of it last.
 pub fn truncations(t: Tally, d: Draft) -> Tally {

@@ -1,14 +1,11 @@
 // Holds the book reader against an independent reckoning of the format, over books that are built here as bytes, and
 // against the numbers and places of document 01. One line for a group: how many books, and at how many the two differ.
 mod boundaries;
-mod build;
 mod compare;
-mod edits;
 mod groups;
-mod random;
-mod reckon;
 
 use compare::Tally;
+use samples::build;
 
 fn line(name: &[u8], tried: u64, differ: u64) {
     io::write_all(1, name);
@@ -42,7 +39,7 @@ fn answers(t: Tally) {
 // Groups of good books with one place changed.
 fn near_good_books(t: Tally) -> Tally {
     let p = build::book_p();
-    let middle = build::made_book(123456789, 12, 8, 12);
+    let middle = build::made_book(123456789, build::wide_shape(12, 8, 12));
     let longest = build::longest();
     let t = groups::truncations(groups::truncations(t, p), middle);
     line(b"truncations", t.tried, t.differ);

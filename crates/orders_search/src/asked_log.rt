@@ -1,0 +1,118 @@
+// The engine's log, asked for and held against what is due.
+ghost use Prim.Native.Nat.{_≤_};
+use crate::logs::Log;
+use engine::LogAnswer;
+
+// What the engine answered to a call for the log, number 0 where it wrote one, and the room in which its buffer lay.
+struct Answered {
+    room: [u8; Answered::ROOM],
+    number: u8,
+    place: usize,
+    length: usize,
+    steps: u8,
+    total: u32,
+}
+
+impl Answered {
+    const ROOM: usize = 640;
+
+    // What the room holds before the call.
+    const BEFORE: u8 = 165;
+}
+
+// A buffer's length: at most that of the room.
+fn fitting(len: usize) -> usize
+    ensures { λ r. ⌜ r ≤ 640 ⌝ }
+{
+    if len < Answered::ROOM {
+        len
+    } else {
+        Answered::ROOM
+    }
+}
+
+// The log asked for with a buffer of `len` bytes, or of all the room.
+fn written(s: &[u8], len: usize) -> Answered {
+    let mut room = [Answered::BEFORE; Answered::ROOM];
+    let end = fitting(len);
+    match engine::log(s, &mut room[0..end]) {
+        LogAnswer::Written {
+            length,
+            steps,
+            total,
+        } => Answered {
+            room,
+            number: 0,
+            place: 0,
+            length,
+            steps,
+            total,
+        },
+        LogAnswer::Refused { number, place } => Answered {
+            room,
+            number,
+            place,
+            length: 0,
+            steps: 0,
+            total: 0,
+        },
+    }
+}
+
+// Whether the room holds the first `len` of these bytes and is as before beyond them.
+fn same_room(room: [u8; Answered::ROOM], bytes: [u8; 2048], len: usize) -> bool {
+    for i in 0..Answered::ROOM {
+        let due = if i < len { bytes[i] } else { Answered::BEFORE };
+        if room[i] != due {
+            return false;
+        }
+    }
+    true
+}
+
+fn steps_of(n: u8) -> u64 {
+    n as u64
+}
+
+fn total_of(n: u32) -> u64 {
+    n as u64
+}
+
+// Whether the numbers that the call returned are those of a log.
+fn same_numbers(w: Answered, due: Log) -> bool {
+    if w.length != due.written.len {
+        return false;
+    }
+    if steps_of(w.steps) != due.steps {
+        return false;
+    }
+    total_of(w.total) == due.total
+}
+
+// Whether the engine writes this log into a buffer of `len` bytes and leaves the rest of the room alone.
+pub fn log_agrees(s: &[u8], len: usize, due: Log) -> bool {
+    let w = written(s, len);
+    if w.number != 0 {
+        return false;
+    }
+    if !same_numbers(w, due) {
+        return false;
+    }
+    let room = w.room;
+    let draft = due.written;
+    let bytes = draft.bytes;
+    same_room(room, bytes, draft.len)
+}
+
+// Whether the engine refuses to write a log, with this number and place, and leaves all of the room alone.
+pub fn log_refused(s: &[u8], len: usize, due: u8, at: usize) -> bool {
+    let w = written(s, len);
+    if w.number != due {
+        return false;
+    }
+    if w.place != at {
+        return false;
+    }
+    let room = w.room;
+    same_room(room, [0; 2048], 0)
+}

@@ -1,0 +1,5 @@
+// Sample books, which the test programs share: built as bytes, made up, edited, and reckoned by a pass of their own.
+pub mod build;
+pub mod edits;
+pub mod random;
+pub mod reckon;
