@@ -11,7 +11,7 @@ use lib.IntN.{pos, negsuc, negℤ}
 use lib.ListN.{length, length-map}
 use Rattle.sets.specs.Sets.{bit, union, count, full, Within, Apart}
 use Rattle.sets.specs.Laws.Bits.{bit-le, bit-union, bit-full, bit-full-high, bit-diff, full-lt, member-lt}
-use Rattle.sets.specs.Laws.Subset.{within-le}
+use Rattle.sets.specs.Laws.Subset.{within-le, within-refl}
 use Rattle.literals.specs.Literal.{Literal, variable}
 use Rattle.literals.specs.Laws.{Proper}
 use Rattle.literals.specs.Truth.{holds, allHold, yesMask, noMask}
@@ -27,10 +27,10 @@ use Rattle.consequence.specs.Laws.{ModelOf}
 use Rattle.step.specs.Meaning.{Question, Step, Answer, nothingLeft, noCandidate, step, stepOf, literalOf, goals, yesGoals, noGoals}
 use Rattle.step.specs.Contracts.{Asked, question}
 use Rattle.step.specs.Laws.Explores.{opposite}
-use Rattle.step.specs.Theorems.{oppositeOn, oppositeOff, placed, Sound, IsStep, New, Gained, Goal, Candidature, asked-sound, step-is, left-known}
+use Rattle.step.specs.Theorems.{oppositeOn, oppositeOff, placed, Sound, IsStep, New, Gained, Goal, Candidature, asked-sound, step-is, left-known, some-step}
 use Rattle.log.specs.Meaning.{Run, done, stuck, onto, after, runFrom, literalsOf, listBytes, stepBytes, stepsBytes, okBytes, logBytes, totalOf}
 use Rattle.log.specs.Contracts.{runOf, Logs}
-use Rattle.log.proofs.RunLaws.{asked-more, new-yes-within, new-no-within, goals-fewer}
+use Rattle.log.proofs.RunLaws.{consequence-model, asked-more, new-yes-within, new-no-within, goals-fewer}
 use Rattle.engine.specs.Meaning.{hasModel, yesConsequence, noConsequence}
 use Rattle.engine.specs.Problem.{problemOf, posed-from}
 use Rattle.engine.specs.Steps.{given, consequenceOf, questionOf}
@@ -531,3 +531,44 @@ module _ {b : OrderBook} (w : WellFormed b) (some : hasModel b ≡ true) where
   pub explained : (ss : List Step) → runOf (questionOf b (given b)) ≡ done ss → Explained b (logBytes ss) (length ss) (totalOf ss)
   unfolding runOf problemOf demand-of
   explained ss e = record { demand = demand-of ss (follows _ (b .facts) (given b) ss first-known (stands-facts w) e); steps-said = refl; total-said = refl }
+
+  -- ---- a log is written
+
+  -- what the given facts and more force is the consequence
+  known-forces : (known : LiteralSet) → Within (given b .yes) (known .yes) → Within (given b .no) (known .no) → (f : ℕ) → ModelBy (known .yes) (known .no) f
+      → ModelBy (yesConsequence b) (noConsequence b) f
+  known-forces known y n f m =
+      consequence-model logs f
+      (record {
+        below = m .below;
+        keeps = record { keeps = λ v. omega (arith, y .keeps v, m .keeps .keeps v) };
+        avoids = record { avoids = λ v. omega (arith, n .keeps v, m .avoids .avoids v) };
+        obeyed = m .obeyed;
+      })
+
+  more-known : (x y : ℕ) {m : ℕ} → Within m x → Within m (union x y)
+  more-known x y w = record { keeps = λ v. omega (arith, w .keeps v, bit-union x y v) }
+
+  -- so a step is found at each known set on the way, and with as many turns as goals the end is reached
+  not-stuck : (turns : ℕ) (known : LiteralSet) → AskedOf known → Within (given b .yes) (known .yes) → Within (given b .no) (known .no)
+      → count (goals (ask known)) < turns → runFrom turns (ask known) ≡ stuck → ⊥
+  unfolding runFrom after
+  not-stuck zero known a y n c e = omega arith
+  not-stuck (suc turns) known a y n c e =
+      go (stepOf (ask known)) refl e
+      (λ s d. not-stuck turns (record { yes = union (known .yes) (s .new-on); no = union (known .no) (s .new-off) }) (asked-more logs a d) (more-known _ _ y) (more-known _ _ n) (omega (arith, c, goals-fewer logs a d)))
+    where
+      go : (r : Answer) → stepOf (ask known) ≡ r
+          → elim r [ nothingLeft ↦ done [] | noCandidate ↦ stuck | step s ↦ onto s (runFrom turns (after (ask known) s)) ] ≡ stuck
+          → ((s : Step) → stepOf (ask known) ≡ step s → runFrom turns (after (ask known) s) ≡ stuck → ⊥) → ⊥
+      go nothingLeft d h ih = let z : _≡_ {A = ℕ} 0 1 = cc in absurd (omega arith)
+      go noCandidate d h ih = some-step (ask known) (asked-sound a) (known-forces known y n) d
+      go (step s) d h ih = more (runFrom turns (after (ask known) s)) refl h
+        where
+          more : (r : Run) → runFrom turns (after (ask known) s) ≡ r → onto s r ≡ stuck → ⊥
+          more stuck p q = ih s d p
+          more (done rest) p q = let z : _≡_ {A = ℕ} 0 1 = cc in absurd (omega arith)
+
+  pub written : runOf (questionOf b (given b)) ≡ stuck → ⊥
+  unfolding runOf problemOf
+  written e = not-stuck _ (given b) first-known (within-refl _) (within-refl _) (omega arith) e

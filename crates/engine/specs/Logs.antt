@@ -2,7 +2,7 @@
 use mathlib.Core.Path.{_≡_}
 use mathlib.Core.Bool.{Bool, true, false, cond}
 use mathlib.Core.List.{List, _++_}
-use Prim.Native.Nat.{ℕ}
+use Prim.Native.Nat.{ℕ, _≤_}
 use lib.Dec.{ltb}
 use lib.ListN.{length, take, drop}
 use Rattle.literals.specs.declared.LiteralSet.{LiteralSet}
@@ -56,16 +56,16 @@ pub record Explained (b : OrderBook) (bytes : List ℕ) (steps total : ℕ) : Ty
   pub steps-said : demand .log .steps ≡ steps
   pub total-said : demand .log .total ≡ total
 
--- Demand 3 of what stands in the buffer at exit, where a log was written.
-abbrev pub Explains : Read OrderBook → LogAnswer → List ℕ → Type 0
-Explains (value b end) (LogAnswer.Written length steps total) after = Explained b (take length after) steps total
-Explains (value b end) (LogAnswer.Refused number place) after = Unit {0}
-Explains (refused n p) r after = Unit {0}
+-- Demand 3: where the book has a model and the buffer is long enough, the call writes a log, and what stands in the buffer at exit is such a log.
+abbrev pub Explains : Read OrderBook → List ℕ → List ℕ → LogAnswer → Type 0
+Explains (value b end) before after (LogAnswer.Written length steps total) = Explained b (take length after) steps total
+Explains (value b end) before after (LogAnswer.Refused number place) = hasModel b ≡ true → maxLog ≤ length before → ⊥
+Explains (refused n p) before after r = Unit {0}
 
 -- The call's contract: the answer and every byte of the buffer, by equation, and demand 3.
 pub record Logged (s before after : List ℕ) (r : LogAnswer) : Type 0 where
   pub said : LoggedAs (logOutcome (length before) (readBook s)) before after r
-  pub demand-3 : Explains (readBook s) r after
+  pub demand-3 : Explains (readBook s) before after r
 
 -- ---- the problem's
 

@@ -100,7 +100,7 @@ module _ {n : ℕ} {ys ns : List ℕ} {ch : ℕ} {table : List (List ℕ)} {c fa
   p = problem n ys ns ch
 
   -- every model of the given facts makes all of the consequence true
-  consequence-model : (f : ℕ) → ModelOf (problem n ys ns ch) (facts .yes) (facts .no) f → ModelOf (problem n ys ns ch) (c .yes) (c .no) f
+  pub consequence-model : (f : ℕ) → ModelOf (problem n ys ns ch) (facts .yes) (facts .no) f → ModelOf (problem n ys ns ch) (c .yes) (c .no) f
   consequence-model f m = rw (lg .yes-forced, lg .no-forced) (forced-model (problem n ys ns ch) (facts .yes) (facts .no) f m)
 
   module _ {known : LiteralSet} (a : Asked n ys ns ch table c known) {s : Step} (e : stepOf (question n ys ns ch table c known) ≡ step s) where
