@@ -141,7 +141,7 @@ fn read_from_rules(s: &[u8], variables: usize, choices: usize, rules: usize, fro
 }
 
 // The costs of a book, twenty rows of two: beside the book's struct, which cannot hold an array of arrays.
-// Ruled out: a table with yes and no swapped; one that keeps the costs of a book that is refused.
+// Ruled out: a table with yes and no swapped; costs other than 0 beside a refusal.
 pub fn read_costs(s: &[u8]) -> [[u16; 2]; Book::MAX_CHOICES]
     ensures { λ r. ⌜ r ≡ tableAnswer (λ b. b .costs) (readBook (now (s .entry))) ⌝ }
 {

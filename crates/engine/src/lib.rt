@@ -11,7 +11,7 @@ ghost use Rattle.engine.specs.Contracts.{Posable, FoundModel, FoundForce
 ghost use Rattle.log.specs.Contracts.{runOf};
 ghost use Rattle.engine.specs.Logs.{Logged, LoggedAs, logIn, ofRun};
 
-pub mod problem;
+mod problem;
 
 use book::Book;
 use book::Reading;
@@ -71,7 +71,7 @@ pub fn read_book(s: &[u8]) -> Reading
 }
 
 // The costs of the book, twenty rows of two.
-// Ruled out: a table with yes and no swapped; one that keeps the costs of a book that is refused.
+// Ruled out: a table with yes and no swapped; costs other than 0 beside a refusal.
 pub fn read_costs(s: &[u8]) -> [[u16; 2]; Book::MAX_CHOICES]
     ensures { λ r. ⌜ r ≡ tableAnswer (λ b. b .costs) (readBook (now (s .entry))) ⌝ }
 {
