@@ -42,22 +42,14 @@ use Rattle.engine.specs.declared.StepAnswer.the-variants as StepAnswer
 use Rattle.engine.proofs.BookLaws.{posable, masked-has, none-has, yes-consequence, no-consequence}
 use Rattle.engine.proofs.AnswerLaws.{same-problem}
 
--- ---- the flag of a subset test
+-- ---- the flag of a test
 
-pub subset-no : (a b : ℕ) {r : Bool} → r ≡ subset a b → not r ≡ true → subset a b ≡ false
-subset-no a b {r} e t = let f : r ≡ false = not-true r t in cc
+module _ {x r : Bool} (e : r ≡ x) where
+  pub flag-no : not r ≡ true → x ≡ false
+  flag-no t = sym e ∙ not-true r t
 
-pub subset-yes : (a b : ℕ) {r : Bool} → r ≡ subset a b → not r ≡ false → subset a b ≡ true
-subset-yes a b {r} e t = let f : r ≡ true = not-false r t in cc
-
--- ---- the flag of the test that the known set lies between
-
-module _ (x y z : LiteralSet) {r : Bool} (e : r ≡ between x y z) where
-  pub between-no : not r ≡ true → between x y z ≡ false
-  between-no t = sym e ∙ not-true r t
-
-  pub between-yes : not r ≡ false → between x y z ≡ true
-  between-yes t = sym e ∙ not-false r t
+  pub flag-yes : not r ≡ false → x ≡ true
+  flag-yes t = sym e ∙ not-false r t
 
 -- ---- the answer of `step::next_step`, passed on
 

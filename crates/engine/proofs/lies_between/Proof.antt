@@ -1,5 +1,5 @@
 use Rattle.engine.specs.Contracts.{between}
-use Rattle.engine.proofs.StepLaws.{subset-no, subset-yes}
+use Rattle.engine.proofs.StepLaws.{flag-no, flag-yes}
 use borrow.Author.Needs.{needs}
 use Rattle.engine.proofs.lies_between.Statement.{statement}
 use Rattle.engine.proofs.lies_between.Tie as tie
@@ -14,7 +14,7 @@ subset-requires c κs = search needs
 -- src/lib.rt:171:9
 returns : tie.Need-returns
 unfolding between
-returns c = search (subset-no _ _ (c .before .subset .ensures) (c .if1 .taken))
+returns c = search (flag-no (c .before .subset .ensures) (c .if1 .taken))
 
 -- src/lib.rt:173:9
 subset-requires-2 : tie.Need-subset-requires-2
@@ -23,7 +23,7 @@ subset-requires-2 c κs = search needs
 -- src/lib.rt:174:9
 returns-2 : tie.Need-returns-2
 unfolding between
-returns-2 c = search (subset-yes _ _ (c .before .before .before .subset .ensures) (c .before .before .if1 .left), subset-no _ _ (c .before .subset2 .ensures) (c .if2 .taken))
+returns-2 c = search (flag-yes (c .before .before .before .subset .ensures) (c .before .before .if1 .left), flag-no (c .before .subset2 .ensures) (c .if2 .taken))
 
 -- src/lib.rt:176:9
 subset-requires-3 : tie.Need-subset-requires-3
@@ -32,7 +32,7 @@ subset-requires-3 c κs = search needs
 -- src/lib.rt:177:9
 returns-3 : tie.Need-returns-3
 unfolding between
-returns-3 c = search (subset-yes _ _ (c .before .before .before .before .before .subset .ensures) (c .before .before .before .before .if1 .left), subset-yes _ _ (c .before .before .before .subset2 .ensures) (c .before .before .if2 .left), subset-no _ _ (c .before .subset3 .ensures) (c .if3 .taken))
+returns-3 c = search (flag-yes (c .before .before .before .before .before .subset .ensures) (c .before .before .before .before .if1 .left), flag-yes (c .before .before .before .subset2 .ensures) (c .before .before .if2 .left), flag-no (c .before .subset3 .ensures) (c .if3 .taken))
 
 -- src/lib.rt:179:5
 subset-requires-4 : tie.Need-subset-requires-4
@@ -42,7 +42,7 @@ subset-requires-4 c κs = search needs
 returns-4 : tie.Need-returns-4
 unfolding between
 returns-4 c =
-    rw (subset-yes _ _ (c .before .before .before .before .before .before .subset .ensures) (c .before .before .before .before .before .if1 .left), subset-yes _ _ (c .before .before .before .before .subset2 .ensures) (c .before .before .before .if2 .left), subset-yes _ _ (c .before .before .subset3 .ensures) (c .before .if3 .left)) (c .subset4 .ensures)
+    rw (flag-yes (c .before .before .before .before .before .before .subset .ensures) (c .before .before .before .before .before .if1 .left), flag-yes (c .before .before .before .before .subset2 .ensures) (c .before .before .before .if2 .left), flag-yes (c .before .before .subset3 .ensures) (c .before .if3 .left)) (c .subset4 .ensures)
 
 pub lies-between-spec : {M : Type 1} → statement M
 lies-between-spec =

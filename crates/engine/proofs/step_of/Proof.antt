@@ -2,7 +2,7 @@ use mathlib.Core.Path.{_≡_, refl, sym, ap, _∙_}
 use mathlib.Core.Bool.{true, false}
 use Rattle.consequence.specs.Meaning.{contradicts}
 use Rattle.engine.specs.Contracts.{problemIn, forcedIn, stepIn}
-use Rattle.engine.proofs.StepLaws.{found-nine, found-set, stepping, between-no, between-yes}
+use Rattle.engine.proofs.StepLaws.{found-nine, found-set, stepping, flag-no, flag-yes}
 use borrow.Author.Needs.{needs}
 use Rattle.engine.proofs.step_of.Statement.{statement}
 use Rattle.engine.proofs.step_of.Tie as tie
@@ -38,13 +38,13 @@ unfolding stepIn
 returns c =
     let f = found (c .before .before) in
     let t = (rw (f .1) at (c .before .lies-between .ensures)) in
-    rw (f .0, between-no _ _ _ t (c .if1 .taken)) refl
+    rw (f .0, flag-no t (c .if1 .taken)) refl
 
 -- src/lib.rt:196:13
 take-step-requires : tie.Need-take-step-requires
 take-step-requires c κs =
     let f = found (c .before .before) in
-    rw (f .1) (stepping _ _ (c .before .before .before .before .before .before .pre) (f .0) _ (between-yes _ _ _ (rw (f .1) at (c .before .lies-between .ensures)) (c .if1 .left)))
+    rw (f .1) (stepping _ _ (c .before .before .before .before .before .before .pre) (f .0) _ (flag-yes (rw (f .1) at (c .before .lies-between .ensures)) (c .if1 .left)))
 
 -- src/lib.rt:183:1
 returns-2 : tie.Need-returns-2
@@ -58,7 +58,7 @@ returns-3 : tie.Need-returns-3
 unfolding stepIn
 returns-3 c =
     let f = found (c .before .before .before) in
-    rw (f .0, between-yes _ _ _ (rw (f .1) at (c .before .before .lies-between .ensures)) (c .before .if1 .left)) (rw (f .1) at (c .take-step .ensures))
+    rw (f .0, flag-yes (rw (f .1) at (c .before .before .lies-between .ensures)) (c .before .if1 .left)) (rw (f .1) at (c .take-step .ensures))
 
 pub step-of-spec : {M : Type 1} → statement M
 step-of-spec =
