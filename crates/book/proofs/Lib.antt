@@ -4,6 +4,7 @@ pub mod FactLaws
 pub mod LiteralLaws
 pub mod ManyLaws
 pub mod MarkLaws
+pub mod NumberLaws
 pub mod PaddedLaws
 pub mod PartLaws
 pub mod RuleLaws

@@ -7,17 +7,18 @@ use native.Mathlib.Numerals.{add-one}
 use native.Mathlib.Omega.{arith}
 use lib.ListN.{length, getD, take, set, replicate, length-set, length-replicate}
 use lib.Seq.{take-suc, take-suc-set, take-all}
+use Rattle.problem.specs.Limits.{mostRules}
 
 module _ (masks : List ℕ) where
   pub record Copied (all : List ℕ) (i : ℕ) : Type 0 where
     pub copied : take i all ≡ take i masks
-    pub room : length all ≡ 129
+    pub room : length all ≡ (mostRules + 1)
     pub upto : i ≤ length masks
 
-  pub copied-none : Copied (replicate 129 0) 0
-  copied-none = record { copied = refl; room = length-replicate {A = ℕ} 129 0; upto = zero-le }
+  pub copied-none : Copied (replicate (mostRules + 1) 0) 0
+  copied-none = record { copied = refl; room = length-replicate {A = ℕ} (mostRules + 1) 0; upto = zero-le }
 
-  pub copied-more : {all : List ℕ} {i : ℕ} → length masks ≤ 128 → Copied all i → i < length masks → Copied (set all i (getD masks i 0)) (i + 1)
+  pub copied-more : {all : List ℕ} {i : ℕ} → length masks ≤ mostRules → Copied all i → i < length masks → Copied (set all i (getD masks i 0)) (i + 1)
   copied-more {all} {i} few c h =
       let fits : i < length all = omega (arith, c .room) in
       record {
@@ -26,7 +27,7 @@ module _ (masks : List ℕ) where
         upto = omega arith;
       }
 
-  pub copied-all : {all : List ℕ} {i : ℕ} (last : ℕ) → length masks ≤ 128 → Copied all i → length masks ≤ i → take (length masks + 1) (set all i last) ≡ masks ++ (last ∷ [])
+  pub copied-all : {all : List ℕ} {i : ℕ} (last : ℕ) → length masks ≤ mostRules → Copied all i → length masks ≤ i → take (length masks + 1) (set all i last) ≡ masks ++ (last ∷ [])
   copied-all {all} {i} last few c h =
       let end : i ≡ length masks = omega (arith, c .upto) in
       let fits : length masks < length all = omega (arith, c .room) in

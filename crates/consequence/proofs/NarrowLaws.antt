@@ -20,9 +20,9 @@ use Rattle.sat.specs.Meaning.{obeysAll, Model, NoModel}
 use Rattle.sat.specs.Contracts.{Posed}
 use Rattle.sat.specs.declared.Outcome.{Outcome}
 use Rattle.sat.specs.declared.Outcome.the-variants.{Model as Found, Nothing}
-use Rattle.consequence.specs.Meaning.{Problem, yesForced, noForced}
-use Rattle.consequence.specs.Laws.{Exactly, exactly-yes, exactly-no}
-use Rattle.consequence.specs.Contracts.{problem, Choosing, Denied, Kept, AllModels, Narrowed, commonYes, commonNo}
+use Rattle.consequence.specs.Laws.Masks.{to-theory, of-theory}
+use Rattle.consequence.specs.Laws.Forcing.{both-true, Exactly, exactly-yes, exactly-no}
+use Rattle.consequence.specs.Contracts.{maskTheory, Choosing, Denied, Narrowing, AllModels, Narrowed, commonYes, commonNo}
 
 -- ---- one rule more
 
@@ -41,10 +41,6 @@ obeys-snoc f [] (m ∷ ns) y k e = absurd (omega arith)
 obeys-snoc f (x ∷ ys) [] y k e = absurd (omega arith)
 obeys-snoc f (x ∷ ys) (m ∷ ns) y k e =
     ap (λ b. obeysMasks f x m && b) (obeys-snoc f ys ns y k (omega arith)) ∙ sym (and-right (obeysMasks f x m) (obeysAll f ys ns) (obeysMasks f y k))
-
-both-true : (a b : Bool) → a && b ≡ true → (a ≡ true) × (b ≡ true)
-both-true true b e = (refl, e)
-both-true false b e = let z : _≡_ {A = ℕ} 0 1 = cc in absurd (omega arith)
 
 module _ {n : ℕ} {ys ns : List ℕ} {on off : ℕ} (posed : Posed n ys ns on off) where
   -- a model that obeys one rule more, and back
@@ -86,7 +82,7 @@ within-lt n a b w h = omega (arith, within-le a b (record { keeps = w }))
 -- ---- the laws of the loop
 
 module _ {n : ℕ} {ys ns : List ℕ} {ch on off first : ℕ} (c : Choosing n ys ns ch on off first) where
-  pub kept-first : {y k : ℕ} → y ≡ inter first ch → k ≡ diff ch first → Kept n ys ns ch on off (record { yes = y; no = k })
+  pub kept-first : {y k : ℕ} → y ≡ inter first ch → k ≡ diff ch first → Narrowing n ys ns ch on off (record { yes = y; no = k })
   unfolding commonYes commonNo
   kept-first {y} {k} e d = record {
     found = first ∷ [];
@@ -97,10 +93,10 @@ module _ {n : ℕ} {ys ns : List ℕ} {ch on off first : ℕ} (c : Choosing n ys
   }
 
   -- the masks that are kept are of n variables
-  pub kept-yes-below : {kept : LiteralSet} → Kept n ys ns ch on off kept → kept .yes < 2 ^ n
+  pub kept-yes-below : {kept : LiteralSet} → Narrowing n ys ns ch on off kept → kept .yes < 2 ^ n
   kept-yes-below k = rw (k .yes-common) (within-lt n _ ch (λ v. common-yes-within ch v (k .found)) (c .choices-below))
 
-  pub kept-no-below : {kept : LiteralSet} → Kept n ys ns ch on off kept → kept .no < 2 ^ n
+  pub kept-no-below : {kept : LiteralSet} → Narrowing n ys ns ch on off kept → kept .no < 2 ^ n
   kept-no-below k = rw (k .no-common) (within-lt n _ ch (λ v. common-no-within ch v (k .found)) (c .choices-below))
 
   -- a model that denies a kept literal takes it away
@@ -130,7 +126,7 @@ module _ {n : ℕ} {ys ns : List ℕ} {ch on off first : ℕ} (c : Choosing n ys
     pub kept-less : {y k : ℕ} → y ≡ inter m (kept .yes) → k ≡ diff (kept .no) m → count y + count k < count (kept .yes) + count (kept .no)
     kept-less e f = rw (e, f) (less kept m (denies .1))
 
-    pub kept-more : {y k : ℕ} → Kept n ys ns ch on off kept → y ≡ inter m (kept .yes) → k ≡ diff (kept .no) m → Kept n ys ns ch on off (record { yes = y; no = k })
+    pub kept-more : {y k : ℕ} → Narrowing n ys ns ch on off kept → y ≡ inter m (kept .yes) → k ≡ diff (kept .no) m → Narrowing n ys ns ch on off (record { yes = y; no = k })
     unfolding commonYes commonNo
     kept-more w e f = record {
       found = m ∷ w .found;
@@ -141,7 +137,7 @@ module _ {n : ℕ} {ys ns : List ℕ} {ch on off first : ℕ} (c : Choosing n ys
     }
 
   -- where no model denies a kept literal, what is kept is exactly what is forced
-  pub kept-all : {kept : LiteralSet} {r : Outcome} → Kept n ys ns ch on off kept → Denied n ys ns on off kept r → r ≡ Nothing → Narrowed n ys ns ch on off kept
+  pub kept-all : {kept : LiteralSet} {r : Outcome} → Narrowing n ys ns ch on off kept → Denied n ys ns on off kept r → r ≡ Nothing → Narrowed n ys ns ch on off kept
   kept-all {kept} {r} w d e = record { yes-forced = exactly-yes _ on off (kept .yes) yes-exact; no-forced = exactly-no _ on off (kept .no) no-exact }
     where
       none : NoModel n (ys ++ (kept .no ∷ [])) (ns ++ (kept .yes ∷ [])) on off
@@ -161,16 +157,16 @@ module _ {n : ℕ} {ys ns : List ℕ} {ch on off first : ℕ} (c : Choosing n ys
           by (yes q) = q
           by (no q) = absurd (none .none f (more-rules (c .posed) (kept .no) (kept .yes) f m (obeys-yes f (kept .no) (kept .yes) v b (omega (arith, bit-le f v)))))
 
-      yes-exact : Exactly (problem n ys ns ch) on off 1 (kept .yes)
+      yes-exact : Exactly (maskTheory n ys ns ch) on off 1 (kept .yes)
       yes-exact = record {
         below = kept-yes-below w;
-        sound = λ v b. (omega (arith, ap (λ x. bit x v) (w .yes-common), common-yes-within ch v (w .found), bit-le ch v), yes-each v b);
-        complete = λ v h o a. ap (λ x. bit x v) (w .yes-common) ∙ common-yes-in (c .posed) ch v (w .found) (w .models) o a;
+        sound = λ v b. (omega (arith, ap (λ x. bit x v) (w .yes-common), common-yes-within ch v (w .found), bit-le ch v), λ f m. yes-each v b f (of-theory ch m));
+        complete = λ v h o a. ap (λ x. bit x v) (w .yes-common) ∙ common-yes-in (c .posed) ch v (w .found) (w .models) o (λ f m. a f (to-theory ch m));
       }
 
-      no-exact : Exactly (problem n ys ns ch) on off 0 (kept .no)
+      no-exact : Exactly (maskTheory n ys ns ch) on off 0 (kept .no)
       no-exact = record {
         below = kept-no-below w;
-        sound = λ v b. (omega (arith, ap (λ x. bit x v) (w .no-common), common-no-within ch v (w .found), bit-le ch v), no-each v b);
-        complete = λ v h o a. ap (λ x. bit x v) (w .no-common) ∙ common-no-in (c .posed) ch v (w .found) (w .models) o a;
+        sound = λ v b. (omega (arith, ap (λ x. bit x v) (w .no-common), common-no-within ch v (w .found), bit-le ch v), λ f m. no-each v b f (of-theory ch m));
+        complete = λ v h o a. ap (λ x. bit x v) (w .no-common) ∙ common-no-in (c .posed) ch v (w .found) (w .models) o (λ f m. a f (to-theory ch m));
       }

@@ -6,22 +6,23 @@ use Prim.Native.Nat.{ℕ, _+_, _^_, _≤_, _<_}
 use lib.ListN.{length}
 use Rattle.sets.specs.Sets.{inter, diff, count}
 use Rattle.literals.specs.declared.LiteralSet.{LiteralSet}
-use Rattle.sat.specs.Meaning.{Model, NoModel}
+use Rattle.sat.specs.Meaning.{obeysAll, Model, NoModel}
+use Rattle.problem.specs.Limits.{mostRules}
 use Rattle.sat.specs.Contracts.{Posed}
 use Rattle.sat.specs.declared.Outcome.{Outcome}
 use Rattle.sat.specs.declared.Outcome.the-variants.{Model as Found, Nothing}
-use Rattle.consequence.specs.Meaning.{Problem, contradicts, yesForced, noForced}
+use Rattle.consequence.specs.Meaning.{Theory, contradicts, yesForced, noForced}
 use Rattle.consequence.specs.declared.Consequence.{Consequence}
 use Rattle.consequence.specs.declared.Consequence.the-variants.{NoModel as Contradiction, Forced}
 
--- The problem that the arguments are.
-abbrev pub problem : ℕ → List ℕ → List ℕ → ℕ → Problem
-problem n ys ns ch = record { variables = n; yes-masks = ys; no-masks = ns; choices = ch }
+-- The theory that the arguments are: the rules are masks.
+abbrev pub maskTheory : ℕ → List ℕ → List ℕ → ℕ → Theory
+maskTheory n ys ns ch = record { variables = n; obeyed = λ f. obeysAll f ys ns; choices = ch }
 
 -- A model is in hand, and the choices are among the variables.
 pub record Choosing (n : ℕ) (ys ns : List ℕ) (ch on off first : ℕ) : Type 0 where
   pub posed : Posed n ys ns on off
-  pub few : length ys ≤ 128
+  pub few : length ys ≤ mostRules
   pub choices-below : ch < 2 ^ n
   pub model : Model n ys ns on off first
 
@@ -43,7 +44,7 @@ AllModels n ys ns on off (m ∷ ms) = Model n ys ns on off m × AllModels n ys n
 
 -- The kept literals are those over choices that are common to all models found, and each model found after the first took one away:
 -- so with U choices at most U + 1 models are found.
-pub record Kept (n : ℕ) (ys ns : List ℕ) (ch on off : ℕ) (kept : LiteralSet) : Type 0 where
+pub record Narrowing (n : ℕ) (ys ns : List ℕ) (ch on off : ℕ) (kept : LiteralSet) : Type 0 where
   pub found : List ℕ
   pub models : AllModels n ys ns on off found
   pub yes-common : kept .yes ≡ commonYes ch found
@@ -62,12 +63,12 @@ pub record Denied (n : ℕ) (ys ns : List ℕ) (on off : ℕ) (kept : LiteralSet
 -- ---- what is forced
 
 pub record Narrowed (n : ℕ) (ys ns : List ℕ) (ch on off : ℕ) (r : LiteralSet) : Type 0 where
-  pub yes-forced : r .yes ≡ yesForced (problem n ys ns ch) on off
-  pub no-forced : r .no ≡ noForced (problem n ys ns ch) on off
+  pub yes-forced : r .yes ≡ yesForced (maskTheory n ys ns ch) on off
+  pub no-forced : r .no ≡ noForced (maskTheory n ys ns ch) on off
 
 abbrev pub Concludes : ℕ → List ℕ → List ℕ → ℕ → ℕ → ℕ → Consequence → Type 0
-Concludes n ys ns ch on off Contradiction = contradicts (problem n ys ns ch) on off ≡ true
-Concludes n ys ns ch on off (Forced r) = (contradicts (problem n ys ns ch) on off ≡ false) × Narrowed n ys ns ch on off r
+Concludes n ys ns ch on off Contradiction = contradicts (maskTheory n ys ns ch) on off ≡ true
+Concludes n ys ns ch on off (Forced r) = (contradicts (maskTheory n ys ns ch) on off ≡ false) × Narrowed n ys ns ch on off r
 
 -- No filling obeys the rules and makes the set true; or some does, and the two masks are exactly what is forced.
 pub record Concluded (n : ℕ) (ys ns : List ℕ) (ch on off : ℕ) (r : Consequence) : Type 0 where

@@ -1,3 +1,4 @@
 pub mod Meaning
-pub mod Laws
+pub mod Demand2
 pub mod Contracts
+pub mod Laws

@@ -4,14 +4,13 @@ ghost use mathlib.Core.Path.{_≡_};
 ghost use mathlib.Core.List.{[], _∷_, _++_};
 ghost use Prim.Native.Nat.{_+_, _^_, _<_, _≤_};
 ghost use lib.ListN.{length, take};
+ghost use Rattle.problem.specs.Limits.{mostRules};
 ghost use Rattle.sat.specs.Contracts.{Posed, Searched};
 ghost use Rattle.consequence.specs.Contracts.{Choosing, Denied, Narrowed, Concluded};
 use literals::LiteralSet;
+use problem::MaskedProblem;
 use sat::Outcome;
 use sat::Partial;
-
-// The longest list of rules, with room for one more.
-const ROOM: usize = 129;
 
 pub enum Consequence {
     NoModel,
@@ -19,11 +18,11 @@ pub enum Consequence {
 }
 
 // The masks, and one more after the last.
-fn extended(masks: &[u64], last: u64) -> [u64; ROOM]
-    requires { ⌜ length (now masks) ≤ 128 ⌝ }
+fn with_one_more(masks: &[u64], last: u64) -> [u64; MaskedProblem::RULES_AND_ONE]
+    requires { ⌜ length (now masks) ≤ mostRules ⌝ }
     ensures { λ r. ⌜ take (length (now (masks .entry)) + 1) r ≡ now (masks .entry) ++ (last ∷ []) ⌝ }
 {
-    let mut all = [0u64; ROOM];
+    let mut all = [0u64; MaskedProblem::RULES_AND_ONE];
     let mut i = 0;
     while i < masks.len() {
         all[i] = masks[i];
@@ -37,13 +36,13 @@ fn extended(masks: &[u64], last: u64) -> [u64; ROOM]
 // so that few models are wanted.
 fn deny(n: u32, yes: &[u64], no: &[u64], p: Partial, kept: LiteralSet) -> Outcome
     requires { ⌜ Posed n (now yes) (now no) (p .on) (p .off) ⌝ }
-    requires { ⌜ length (now yes) ≤ 128 ⌝ }
+    requires { ⌜ length (now yes) ≤ mostRules ⌝ }
     requires { ⌜ kept .yes < 2 ^ n ⌝ }
     requires { ⌜ kept .no < 2 ^ n ⌝ }
     ensures { λ r. ⌜ Denied n (now (yes .entry)) (now (no .entry)) (p .on) (p .off) kept r ⌝ }
 {
-    let more_yes = extended(yes, kept.no);
-    let more_no = extended(no, kept.yes);
+    let more_yes = with_one_more(yes, kept.no);
+    let more_no = with_one_more(no, kept.yes);
     let rules = yes.len() + 1;
     sat::search(n, &more_yes[..rules], &more_no[..rules], p, kept.no)
 }
@@ -73,7 +72,7 @@ fn narrow(n: u32, yes: &[u64], no: &[u64], choices: u64, p: Partial, first: u64)
 // The literals over choices that a set forces with the rules, or that no filling obeys the rules and makes the set true.
 pub fn propagate(n: u32, yes: &[u64], no: &[u64], choices: u64, p: Partial) -> Consequence
     requires { ⌜ Posed n (now yes) (now no) (p .on) (p .off) ⌝ }
-    requires { ⌜ length (now yes) ≤ 128 ⌝ }
+    requires { ⌜ length (now yes) ≤ mostRules ⌝ }
     requires { ⌜ choices < 2 ^ n ⌝ }
     ensures { λ r. ⌜ Concluded n (now (yes .entry)) (now (no .entry)) choices (p .on) (p .off) r ⌝ }
 {

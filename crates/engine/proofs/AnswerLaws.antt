@@ -1,74 +1,103 @@
--- The answers on an accepted book, from what the inner functions found of its problem.
+-- The answers on one model and on the consequence, from what the inner functions found.
 -- Assumes nothing.
-use mathlib.Core.Path.{_≡_, refl, sym, ap, ap₂, _∙_}
-use mathlib.Core.Bool.{Bool, true, false, cond, false≢true, true≢false}
-use mathlib.Core.List.{List, map}
-use Prim.Native.Nat.{ℕ}
+use mathlib.Core.Path.{_≡_, refl, sym, ap, ap₂, subst, _∙_}
+use mathlib.Core.Bool.{Bool, true, false, not, cond, true≢false, false≢true}
+use mathlib.Core.List.{List}
+use Prim.Native.Nat.{ℕ, _^_, _<_}
 use native.Mathlib.Omega.{arith}
-use lib.ListN.{take}
-use Rattle.literals.specs.Truth.{yesMask, noMask}
 use Rattle.literals.specs.declared.LiteralSet.{LiteralSet}
-use Rattle.book.specs.Format.{Read, value, refused, OrderBook}
+use Rattle.book.specs.Format.{Read, value, refused, OrderBook, readBook}
 use Rattle.book.specs.Answer.{kept}
-use Rattle.book.proofs.WellFormed.{WellFormed}
-use Rattle.sat.specs.Meaning.{Model, NoModel}
-use Rattle.consequence.specs.Meaning.{Problem, contradicts, yesForced, noForced}
-use Rattle.consequence.specs.Contracts.{problem, Concluded}
+use Rattle.book.proofs.WellFormed.{WellFormed, well-formed}
+use Rattle.sat.specs.Laws.Fillings.{witness-some}
+use Rattle.problem.specs.Problem.{Problem, problemOf, given}
+use Rattle.problem.specs.Masked.{maskedFrom}
+use Rattle.problem.specs.declared.MaskedProblem.{MaskedProblem}
+use Rattle.problem.proofs.BookLaws.{proper-book}
+use Rattle.consequence.specs.Meaning.{models, hasModel, consequenceOf, Theory, theoryOf, contradicts, ModelOf, NoModelOf}
+use Rattle.consequence.specs.Demand2.{Demand2, NoFilling}
+use Rattle.consequence.specs.Contracts.{Concluded}
+use Rattle.consequence.specs.Laws.Forcing.{none-contradicts}
+use Rattle.consequence.specs.Laws.Masks.{to-theory, none-to-theory}
+use Rattle.consequence.specs.Laws.Problems.{model-models, no-filling, consequence-demand}
 use Rattle.consequence.specs.declared.Consequence.{Consequence}
 use Rattle.consequence.specs.declared.Consequence.the-variants as Consequence
-use Rattle.engine.specs.declared.problem.Posing.{Posing}
-use Rattle.consequence.specs.Laws.{contradicts-none, contradicts-not}
-use Rattle.engine.specs.Meaning.{models, hasModel, yesConsequence, noConsequence, withModel}
-use Rattle.engine.specs.Problem.{problemOf, posed-from}
-use Rattle.engine.specs.Contracts.{Posable, FoundModel, FoundForced}
-use Rattle.engine.specs.Answer.{IsModelOf, ModelSays, consequenceAnswer}
+use Rattle.engine.specs.Calls.{withModel, NineExactly, IsModelOf, ModelSays, consequenceAnswer, FillsIn, ConsequenceCall}
+use Rattle.engine.specs.Contracts.{yesIn, noIn, theoryIn, forcedIn, FoundModel, FoundForced}
 use Rattle.engine.specs.declared.ModelAnswer.{ModelAnswer}
 use Rattle.engine.specs.declared.ModelAnswer.the-variants as ModelAnswer
 use Rattle.engine.specs.declared.ConsequenceAnswer.{ConsequenceAnswer}
 use Rattle.engine.specs.declared.ConsequenceAnswer.the-variants as ConsequenceAnswer
-use Rattle.engine.proofs.BookLaws.{kept-rules, masked-models, masked-has, none-has, yes-consequence, no-consequence}
+use Rattle.engine.proofs.NineLaws.{nine-exactly}
+use Rattle.engine.proofs.ProblemLaws.{theory-same, forced-same, contradicts-has}
 
 -- what `consequence::propagate` says of the problem, in the call's answer
-module _ (p : Posing) {r : Consequence} where
-  pub forced-found : {two : LiteralSet} → Concluded (p .variables) (take (p .rules) (p .yes)) (take (p .rules) (p .no)) (p .choices) (p .facts .yes) (p .facts .no) r → r ≡ Consequence.Forced two
-      → FoundForced p (ConsequenceAnswer.Forced two)
-  forced-found c e = let s = (rw e at c) .said in record { said = (s .0, s .1 .yes-forced, s .1 .no-forced) }
+module _ (p : MaskedProblem) {r : Consequence} (c : Concluded (p .variables) (yesIn p) (noIn p) (p .choices) (p .facts .yes) (p .facts .no) r) where
+  pub forced-found : {two : LiteralSet} → r ≡ Consequence.Forced two → FoundForced p (ConsequenceAnswer.Forced two)
+  forced-found e = let s = (rw e at c) .said in record { said = (s .0, ap₂ (λ (y : ℕ) (n : ℕ). record { yes = y; no = n }) (s .1 .yes-forced) (s .1 .no-forced)) }
 
-  pub none-found : Concluded (p .variables) (take (p .rules) (p .yes)) (take (p .rules) (p .no)) (p .choices) (p .facts .yes) (p .facts .no) r → r ≡ Consequence.NoModel
-      → FoundForced p (ConsequenceAnswer.Refused 9 0)
-  none-found c e = record { said = (refl, refl, (rw e at c) .said) }
+  pub none-found : r ≡ Consequence.NoModel → FoundForced p (ConsequenceAnswer.Refused 9 0)
+  none-found e = record { said = (refl, refl, (rw e at c) .said) }
 
-module _ {b : OrderBook} (w : WellFormed b) where
-  -- the rules that the search was handed are those of the book
-  pub yes-rules : take (b .header .rules) (kept b .yes) ≡ map yesMask (b .rules)
-  yes-rules = kept-rules yesMask (b .rules) (b .header .rules) (w .rule-count)
+-- a test that fails, and one that passes
+not-true-is : (h : Bool) → true ≡ not h → h ≡ false
+not-true-is true e = absurd (true≢false e)
+not-true-is false e = refl
 
-  pub no-rules : take (b .header .rules) (kept b .no) ≡ map noMask (b .rules)
-  no-rules = kept-rules noMask (b .rules) (b .header .rules) (w .rule-count)
+not-false-is : (h : Bool) → false ≡ not h → h ≡ true
+not-false-is true e = refl
+not-false-is false e = absurd (false≢true e)
 
-  pub model-says : (end : ℕ) (r : ModelAnswer) → FoundModel (posed-from (kept b)) r → ModelSays (value b end) r
-  model-says end (ModelAnswer.Model m) f =
-      let model : Model (b .header .variables) (map yesMask (b .rules)) (map noMask (b .rules)) (yesMask (b .facts)) (noMask (b .facts)) m = rw (yes-rules, no-rules) at (f .said) in (
-        λ h. record { filling = m; below = model .below; model = masked-models w m model; answered = refl },
-        λ h. absurd (true≢false (sym (masked-has w m model) ∙ h)),
-      )
-  model-says end (ModelAnswer.Refused number place) f =
-      let none : NoModel (b .header .variables) (map yesMask (b .rules)) (map noMask (b .rules)) (yesMask (b .facts)) (noMask (b .facts)) = rw (yes-rules, no-rules) at (f .said .2) in
-      (λ h. absurd (true≢false (sym h ∙ none-has w none)), λ h. ap₂ ModelAnswer.Refused (f .said .0) (f .said .1))
+module _ {b : OrderBook} (w : WellFormed b) (end : ℕ) where
+  -- ---- one model
 
-  -- the problem that was handed over is the book's
-  pub same-problem : problem (b .header .variables) (take (b .header .rules) (kept b .yes)) (take (b .header .rules) (kept b .no)) (posed-from (kept b) .choices) ≡ problemOf b
+  -- a model of the code's arguments is a model of the book
+  found-model : (f : ℕ) → ModelOf (theoryIn (maskedFrom (kept b))) (maskedFrom (kept b) .facts .yes) (maskedFrom (kept b) .facts .no) f → models (problemOf b) f ≡ true
   unfolding problemOf
-  same-problem = ap₂ (λ y n. problem (b .header .variables) y n (posed-from (kept b) .choices)) yes-rules no-rules
+  found-model f m =
+      model-models (problemOf b) (proper-book w .facts-proper) f (subst (λ (t : Theory). ModelOf t (given (problemOf b) .yes) (given (problemOf b) .no) f) (theory-same w) m)
 
-  pub consequence-says : (end : ℕ) (r : ConsequenceAnswer) → FoundForced (posed-from (kept b)) r → r ≡ consequenceAnswer (value b end)
-  unfolding consequenceAnswer withModel problemOf
-  consequence-says end (ConsequenceAnswer.Forced two) f =
-      let some = contradicts-not (problemOf b) _ _ (rw same-problem at (f .said .0)) in
-      let model : Model (b .header .variables) (map yesMask (b .rules)) (map noMask (b .rules)) (yesMask (b .facts)) (noMask (b .facts)) (some .0) = some .1 in
-      let y : two .yes ≡ yesConsequence b = (rw same-problem at (f .said .1)) ∙ yes-consequence w in
-      let n : two .no ≡ noConsequence b = (rw same-problem at (f .said .2)) ∙ no-consequence w in
-      rw (masked-has w (some .0) model) (ap₂ (λ a c. ConsequenceAnswer.Forced (record { yes = a; no = c })) y n)
-  consequence-says end (ConsequenceAnswer.Refused number place) f =
-      let none : NoModel (b .header .variables) (map yesMask (b .rules)) (map noMask (b .rules)) (yesMask (b .facts)) (noMask (b .facts)) = contradicts-none (problemOf b) _ _ (rw same-problem at (f .said .2)) in
-      rw (none-has w none) (ap₂ ConsequenceAnswer.Refused (f .said .0) (f .said .1))
+  found-has : (f : ℕ) → f < 2 ^ problemOf b .variables → models (problemOf b) f ≡ true → hasModel (problemOf b) ≡ true
+  unfolding hasModel
+  found-has f h e = witness-some _ (models (problemOf b)) f h e
+
+  pub model-says : (r : ModelAnswer) → FoundModel (maskedFrom (kept b)) r → ModelSays (value b end) r
+  unfolding problemOf
+  model-says (ModelAnswer.Model m) f =
+      let e = found-model m (to-theory _ (f .said)) in (
+        λ h. record { filling = m; below = f .said .below; model = e; answered = refl },
+        λ h. absurd (true≢false (sym (found-has m (f .said .below) e) ∙ h)),
+      )
+  model-says (ModelAnswer.Refused number place) f =
+      let none = sym (none-contradicts _ _ _ (none-to-theory _ (f .said .2))) ∙ contradicts-has w in
+      (λ h. absurd (true≢false (sym h ∙ not-true-is _ none)), λ h. ap₂ ModelAnswer.Refused (f .said .0) (f .said .1))
+
+  -- ---- the consequence
+
+  pub consequence-says : (r : ConsequenceAnswer) → FoundForced (maskedFrom (kept b)) r → r ≡ consequenceAnswer (value b end)
+  unfolding consequenceAnswer withModel
+  consequence-says (ConsequenceAnswer.Forced two) f =
+      rw (not-false-is (hasModel (problemOf b)) (sym (f .said .0) ∙ contradicts-has w)) (ap ConsequenceAnswer.Forced (f .said .1 ∙ forced-same w))
+  consequence-says (ConsequenceAnswer.Refused number place) f =
+      rw (not-true-is (hasModel (problemOf b)) (sym (f .said .2) ∙ contradicts-has w)) (ap₂ ConsequenceAnswer.Refused (f .said .0) (f .said .1))
+
+-- demand 2 of the answer
+fills-in : (s : List ℕ) (m : Read OrderBook) → readBook s ≡ m → (r : ConsequenceAnswer) → r ≡ consequenceAnswer m → FillsIn m r
+unfolding consequenceAnswer withModel
+fills-in s (refused number place) e r c = c
+fills-in s (value b end) e r c = go r (hasModel (problemOf b)) refl c
+  where
+    go : (r : ConsequenceAnswer) (h : Bool) → hasModel (problemOf b) ≡ h → r ≡ cond h (ConsequenceAnswer.Forced (consequenceOf (problemOf b))) (ConsequenceAnswer.Refused 9 0)
+        → FillsIn (value b end) r
+    go (ConsequenceAnswer.Forced two) true m d =
+        let same : two ≡ consequenceOf (problemOf b) = cc in rw same (consequence-demand (problemOf b) (proper-book (well-formed s e) .choices-below))
+    go (ConsequenceAnswer.Forced two) false m d = let z : _≡_ {A = ℕ} 0 1 = cc in absurd (omega arith)
+    go (ConsequenceAnswer.Refused number place) true m d = let z : _≡_ {A = ℕ} 0 1 = cc in absurd (omega arith)
+    go (ConsequenceAnswer.Refused number place) false m d = no-filling (problemOf b) m
+
+pub consequence-call : {s : List ℕ} {r : ConsequenceAnswer} → r ≡ consequenceAnswer (readBook s) → ConsequenceCall s r
+unfolding consequenceAnswer
+consequence-call {s} {r} e = record { said = e; demand-2 = fills-in s (readBook s) refl r e; nine = rw e (nine-exactly (λ p. ConsequenceAnswer.Forced (consequenceOf p)) ConsequenceAnswer.Refused (λ n m p q d. cc) (λ p at d. other (consequenceOf p) d) (Unit {0}) s) }
+  where
+    other : (two : LiteralSet) {at : ℕ} → ConsequenceAnswer.Forced two ≡ ConsequenceAnswer.Refused 9 at → ⊥
+    other two d = let z : _≡_ {A = ℕ} 0 1 = cc in omega arith

@@ -1,7 +1,5 @@
+mod NineLaws
+mod ProblemLaws
 mod AnswerLaws
-mod BookLaws
 mod StepLaws
 mod LogLaws
-mod ListLaws
-mod Demand3Laws
-mod CallLaws

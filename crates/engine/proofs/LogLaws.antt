@@ -1,43 +1,41 @@
--- The log of a problem and of a book: from what the inner functions found to the call's answer.
+-- The log of a problem and of a book: from what the inner functions found to the call's answer, and its contract in each of its cases.
 -- Assumes nothing.
 use mathlib.Core.Path.{_≡_, refl, sym, ap, ap₂, _∙_}
-use mathlib.Core.Bool.{Bool, true, false, not, cond}
+use mathlib.Core.Bool.{Bool, true, false, not, cond, true≢false}
 use mathlib.Core.List.{List, _++_}
-use Prim.Native.Nat.{ℕ, _+_, _^_, _≤_, _<_}
-use native.Mathlib.Decide.{ℕ-discrete, decLt}
-use mathlib.Core.Logic.{by-cases}
+use Prim.Native.Nat.{ℕ, _≤_, _<_, _^_}
 use native.Mathlib.Omega.{arith}
+use lib.Dec.{ltb}
 use lib.ListN.{length, take, drop}
 use lib.Seq.{take-at}
-use lib.Dec.{ltb}
-use borrow.Author.Tests.{ltb-true}
-use Rattle.sets.specs.Sets.{bit, full, Within}
-use Rattle.sets.specs.Laws.Bits.{bit-le, bit-full, member-lt}
-use Rattle.literals.specs.Truth.{yesMask, noMask}
+use borrow.Author.Tests.{lt-ltb, le-ltb, ltb-true}
 use Rattle.literals.specs.declared.LiteralSet.{LiteralSet}
 use Rattle.book.specs.Limits.{maxLog}
-use Rattle.book.specs.Format.{Read, value, refused, OrderBook}
+use Rattle.book.specs.Format.{Read, value, refused, OrderBook, readBook}
 use Rattle.book.specs.Answer.{kept, table}
 use Rattle.book.proofs.WellFormed.{WellFormed}
-use Rattle.sat.specs.Laws.Rules.{yesMask-lt, noMask-lt}
-use Rattle.consequence.specs.Meaning.{Problem, contradicts, yesForced, noForced}
-use Rattle.consequence.specs.Laws.{ModelOf, yes-exactly, no-exactly}
-use Rattle.step.specs.Meaning.{Step, Question}
-use Rattle.log.specs.Meaning.{Run, done, stuck, logBytes, totalOf}
-use Rattle.log.specs.Contracts.{runOf, Logs, LogWritten, WrittenAs}
+use Rattle.problem.specs.Problem.{Problem, problemOf, given}
+use Rattle.problem.specs.Masked.{maskedFrom}
+use Rattle.problem.specs.declared.MaskedProblem.{MaskedProblem}
+use Rattle.problem.proofs.BookLaws.{proper-book}
+use Rattle.consequence.specs.Meaning.{models, hasModel, consequenceOf, Theory, theoryOf, contradicts}
+use Rattle.consequence.specs.Laws.Problems.{no-filling}
+use Rattle.step.specs.Meaning.{asking, questionOf, Step}
+use Rattle.log.specs.Format.{logBytes}
+use Rattle.log.specs.Meaning.{Run, done, stuck, runOf, runFor, logOf}
+use Rattle.log.specs.Demand3.{Explained}
+use Rattle.log.specs.Contracts.{totalOf, WrittenAs}
+use Rattle.log.specs.Laws.Explains.{explained, not-stuck-for}
+use Rattle.log.specs.Laws.Growth as growth
 use Rattle.log.specs.declared.Written.{Written}
 use Rattle.log.specs.declared.Written.the-variants as Written
-use Rattle.engine.specs.Meaning.{hasModel, withModel}
-use Rattle.engine.specs.Problem.{problemOf, posed-from}
-use Rattle.engine.specs.Contracts.{problemIn, forcedIn, Loggable, logQuestion, Logging}
-use Rattle.engine.specs.Steps.{given, consequenceOf, questionOf}
-use Rattle.engine.specs.Logs.{LogOutcome, logged, refusedWith, ofRun, logOutcome, logAnswer, bufferAfter, LoggedAs, Explained, Explains, Logged, logIn}
-use Rattle.engine.specs.declared.problem.Posing.{Posing}
+use Rattle.engine.specs.Calls.{withModel, NoModelIn, NineExactly, LogOutcome, logged, refusedWith, ofRun, logOutcome, logAnswer, bufferAfter, LoggedAs, Explains, LogCall}
+use Rattle.engine.specs.Contracts.{theoryIn, forcedIn, Loggable, Logging, logIn}
 use Rattle.engine.specs.declared.LogAnswer.{LogAnswer}
 use Rattle.engine.specs.declared.LogAnswer.the-variants as LogAnswer
-use Rattle.engine.proofs.AnswerLaws.{same-problem}
-use Rattle.engine.proofs.BookLaws.{rising-of}
-use Rattle.engine.proofs.StepLaws.{asked-of, steppable, contradicts-has, forced-is}
+use Rattle.engine.proofs.NineLaws.{nine-exactly}
+use Rattle.engine.proofs.ProblemLaws.{cond-swap, theory-same, forced-same, contradicts-has}
+use Rattle.engine.proofs.StepLaws.{forced-by, asked-of}
 
 -- ---- what `log::write` answers, passed on
 
@@ -48,7 +46,7 @@ module _ (run : Run) {before after : List ℕ} {r : Written} where
     where
       go : (run : Run) → WrittenAs run before after r → LoggedAs (ofRun run) before after (LogAnswer.Written len steps total)
       go (done ss) w =
-          let a : Written.Log len steps total ≡ Written.Log (length (logBytes ss)) (length ss) (totalOf ss) = sym e ∙ w .said .answered in
+          let a : Written.Log len steps total ≡ Written.Log (length (logBytes (logOf ss))) (length ss) (totalOf ss) = sym e ∙ w .said .answered in
           record { answered = cc; buffer = w .said .buffer }
       go stuck w = let a : Written.Log len steps total ≡ Written.Stuck = sym e ∙ w .said .1 in let z : _≡_ {A = ℕ} 0 1 = cc in absurd (omega arith)
 
@@ -57,34 +55,22 @@ module _ (run : Run) {before after : List ℕ} {r : Written} where
   written-stuck w e = go run w
     where
       go : (run : Run) → WrittenAs run before after r → LoggedAs (ofRun run) before after (LogAnswer.Refused 11 0)
-      go (done ss) w = let a : Written.Stuck ≡ Written.Log (length (logBytes ss)) (length ss) (totalOf ss) = sym e ∙ w .said .answered in let z : _≡_ {A = ℕ} 0 1 = cc in absurd (omega arith)
+      go (done ss) w = let a : Written.Stuck ≡ Written.Log (length (logBytes (logOf ss))) (length ss) (totalOf ss) = sym e ∙ w .said .answered in let z : _≡_ {A = ℕ} 0 1 = cc in absurd (omega arith)
       go stuck w = record { answered = refl; buffer = w .said .0 }
 
 -- ---- what the log asks
 
-module _ (p : Posing) (costs : List (List ℕ)) (w : Loggable p costs) (some : contradicts (problemIn p) (p .facts .yes) (p .facts .no) ≡ false) where
-  -- a given fact over a choice is forced
+module _ (p : MaskedProblem) (costs : List (List ℕ)) (w : Loggable p costs) (some : contradicts (theoryIn p) (p .facts .yes) (p .facts .no) ≡ false) where
   pub logging-of : Logging p costs (forcedIn p)
   logging-of =
+      let below = w .steppable .searchable .choices-below in
       record {
-        posable = w .steppable .posable;
-        logs = record { asked = asked-of p costs (w .steppable) some (p .facts) (record { keeps = λ v. yes-in v (ℕ-discrete (bit (p .facts .yes) v) 1) }) (record { keeps = λ v. no-in v (ℕ-discrete (bit (p .facts .no) v) 1) }); yes-forced = refl; no-forced = refl };
+        searchable = w .steppable .searchable;
+        asked = record {
+          asked = asked-of p costs (w .steppable) some (p .facts) (growth.yes-given below (forced-by p) (w .yes-facts)) (growth.no-given below (forced-by p) (w .no-facts));
+          forced = forced-by p;
+        };
       }
-    where
-      below : (v : ℕ) → bit (p .choices) v ≡ 1 → v < p .variables
-      below v e = member-lt (p .variables) (p .choices) v e (w .steppable .posable .choices-below)
-
-      yes-in : (v : ℕ) → Dec (bit (p .facts .yes) v ≡ 1) → bit (p .facts .yes) v ≤ bit (forcedIn p .yes) v
-      yes-in v (yes e) =
-          let c : bit (p .choices) v ≡ 1 = omega (arith, e, w .yes-facts .keeps v, bit-le (p .choices) v) in
-          omega (arith, e, yes-exactly (problemIn p) (p .facts .yes) (p .facts .no) .complete v (below v c) c (λ f m. omega (arith, e, m .keeps .keeps v, bit-le f v)))
-      yes-in v (no e) = omega (arith, bit-le (p .facts .yes) v)
-
-      no-in : (v : ℕ) → Dec (bit (p .facts .no) v ≡ 1) → bit (p .facts .no) v ≤ bit (forcedIn p .no) v
-      no-in v (yes e) =
-          let c : bit (p .choices) v ≡ 1 = omega (arith, e, w .no-facts .keeps v, bit-le (p .choices) v) in
-          omega (arith, e, no-exactly (problemIn p) (p .facts .yes) (p .facts .no) .complete v (below v c) c (λ f m. omega (arith, e, m .avoids .avoids v)))
-      no-in v (no e) = omega (arith, bit-le (p .facts .no) v)
 
 -- ---- a refusal leaves the buffer
 
@@ -94,40 +80,88 @@ logged-refused number place before = record { answered = refl; buffer = refl }
 
 -- ---- a book
 
-ltb-no : (a b : ℕ) → b ≤ a → ltb a b ≡ false
-ltb-no a b h = go (ltb a b) refl
-  where
-    go : (x : Bool) → ltb a b ≡ x → x ≡ false
-    go true e = absurd (omega (arith, ltb-true a b e))
-    go false e = refl
-
--- a set below 2 ^ n is within the first n variables
-below-full : (n m : ℕ) → m < 2 ^ n → Within m (full n)
-below-full n m h = record { keeps = λ v. go v (decLt v n) }
-  where
-    go : (v : ℕ) → Dec (v < n) → bit m v ≤ bit (full n) v
-    go v (yes l) = omega (arith, bit-le m v, bit-full n v l)
-    go v (no l) = by-cases (ℕ-discrete (bit m v) 1) (λ e. absurd (omega (arith, member-lt n m v e h))) (λ d. omega (arith, bit-le m v))
-
 module _ {b : OrderBook} (w : WellFormed b) where
-  pub loggable : Loggable (posed-from (kept b)) (table (b .costs))
-  loggable =
-      record {
-        steppable = steppable w;
-        yes-facts = below-full _ _ (yesMask-lt _ (b .facts) (rising-of _ 0 (b .facts) (w .facts-rise .rises)));
-        no-facts = below-full _ _ (noMask-lt _ (b .facts) (rising-of _ 0 (b .facts) (w .facts-rise .rises)));
-      }
+  -- the outcome as a function of the theory and of what is forced
+  outcomeBy : Theory → LiteralSet → LogOutcome
+  outcomeBy t c = cond (not (hasModel (problemOf b))) (refusedWith 9 0) (ofRun (runOf (asking t (problemOf b .costs) c (given (problemOf b)))))
 
-  -- the outcome as a function of the problem and of what is forced
-  outcomeBy : Problem → LiteralSet → LogOutcome
-  outcomeBy q c =
-      cond (contradicts q (yesMask (b .facts)) (noMask (b .facts))) (refusedWith 9 0)
-      (ofRun (runOf (record { problem = q; table = table (b .costs); con-on = c .yes; con-off = c .no; known-on = yesMask (b .facts); known-off = noMask (b .facts) })))
+  pub log-says : (end room : ℕ) → maxLog ≤ room → logIn (maskedFrom (kept b)) (table (b .costs)) ≡ logOutcome room (value b end)
+  unfolding logIn logOutcome withModel runFor outcomeBy problemOf
+  log-says end room l = rw (contradicts-has w, le-ltb _ _ l) (ap₂ outcomeBy (theory-same w) (forced-same w) ∙ cond-swap (hasModel (problemOf b)) _ _)
 
-  pub log-says : (end room : ℕ) → maxLog ≤ room → logIn (posed-from (kept b)) (table (b .costs)) ≡ logOutcome room (value b end)
-  unfolding logIn logOutcome withModel outcomeBy
-  log-says end room l = ap₂ outcomeBy (same-problem w) (forced-is w) ∙ rw (contradicts-has w, ltb-no room maxLog l) (go (hasModel b))
+-- ---- demand 3
+
+-- of the bytes that the buffer begins with
+explains-done : (b : OrderBook) (end : ℕ) (ss : List Step) {before after : List ℕ} {r : LogAnswer} → Explained (problemOf b) (logBytes (logOf ss)) (length ss) (totalOf ss)
+    → LoggedAs (logged (logOf ss)) before after r → Explains (value b end) before after r
+unfolding logAnswer bufferAfter
+explains-done b end ss {before} x l = rw (l .answered, l .buffer, take-at (logBytes (logOf ss)) (drop (length (logBytes (logOf ss))) before) _ refl) x
+
+-- a refusal where there is no model or no room
+explains-none : (b : OrderBook) (end : ℕ) {n q : ℕ} {before after : List ℕ} {r : LogAnswer}
+    → ((f : ℕ) → f < 2 ^ problemOf b .variables → models (problemOf b) f ≡ true → maxLog ≤ length before → ⊥)
+    → LoggedAs (refusedWith n q) before after r → Explains (value b end) before after r
+unfolding logAnswer
+explains-none b end h l = rw (l .answered) h
+
+module _ {b : OrderBook} (w : WellFormed b) (end : ℕ) {before after : List ℕ} {r : LogAnswer} where
+  explains : LoggedAs (logOutcome (length before) (value b end)) before after r → Explains (value b end) before after r
+  unfolding logOutcome withModel ofRun
+  explains l = room (ltb (length before) maxLog) (hasModel (problemOf b)) refl refl (runFor (problemOf b)) refl l
     where
-      go : (h : Bool) → cond (not h) (refusedWith 9 0) (ofRun (runOf (questionOf b (given b)))) ≡ cond h (ofRun (runOf (questionOf b (given b)))) (refusedWith 9 0)
-      go true = refl
-      go false = refl
+      room : (t h : Bool) → ltb (length before) maxLog ≡ t → hasModel (problemOf b) ≡ h → (run : Run) → runFor (problemOf b) ≡ run
+          → LoggedAs (cond t (refusedWith 8 0) (cond h (ofRun run) (refusedWith 9 0))) before after r → Explains (value b end) before after r
+      room true h t m run e l = explains-none b end (λ f x y k. omega (arith, k, ltb-true (length before) maxLog t)) l
+      room false false t m run e l = explains-none b end (λ f x y k. no-filling (problemOf b) m .none f x y) l
+      room false true t m stuck e l = explains-none b end (λ f x y k. not-stuck-for (proper-book w) m e) l
+      room false true t m (done ss) e l = explains-done b end ss (explained (proper-book w) m ss e) l
+
+-- ---- 9
+
+-- after 8, the answer goes by `withModel`
+module _ (s : List ℕ) (room : ℕ) where
+  other : (run : Run) {at : ℕ} → logAnswer (ofRun run) ≡ LogAnswer.Refused 9 at → ⊥
+  unfolding logAnswer ofRun
+  other (done ss) d = let z : _≡_ {A = ℕ} 0 1 = cc in omega arith
+  other stuck d = let z : _≡_ {A = ℕ} 11 9 = cc in omega arith
+
+  log-nine : NineExactly LogAnswer.Refused (maxLog ≤ room) (readBook s) (logAnswer (logOutcome room (readBook s)))
+  unfolding withModel logOutcome logAnswer
+  log-nine = go (readBook s) refl (nine-exactly (λ p. logAnswer (ofRun (runFor p))) LogAnswer.Refused (λ n m p q d. cc) (λ p at d. other (runFor p) d) (maxLog ≤ room) s)
+    where
+      both : (h : Bool) (x : LogOutcome) → logAnswer (cond h x (refusedWith 9 0)) ≡ cond h (logAnswer x) (LogAnswer.Refused 9 0)
+      both true x = refl
+      both false x = refl
+
+      at-book : (b : OrderBook) (end : ℕ) (t : Bool) → ltb room maxLog ≡ t
+          → NineExactly LogAnswer.Refused (maxLog ≤ room) (value b end) (cond (hasModel (problemOf b)) (logAnswer (ofRun (runFor (problemOf b)))) (LogAnswer.Refused 9 0))
+          → NineExactly LogAnswer.Refused (maxLog ≤ room) (value b end) (logAnswer (cond t (refusedWith 8 0) (cond (hasModel (problemOf b)) (ofRun (runFor (problemOf b))) (refusedWith 9 0))))
+      at-book b end true e x =
+          record {
+            nine-none = λ at d. let z : _≡_ {A = ℕ} 8 9 = cc in absurd (omega arith);
+            none-nine = λ l n. absurd (omega (arith, ltb-true room maxLog e));
+          }
+      at-book b end false e x = rw (both (hasModel (problemOf b)) (ofRun (runFor (problemOf b)))) x
+
+      go : (m : Read OrderBook) → readBook s ≡ m → NineExactly LogAnswer.Refused (maxLog ≤ room) m (withModel (λ p. logAnswer (ofRun (runFor p))) LogAnswer.Refused m)
+          → NineExactly LogAnswer.Refused (maxLog ≤ room) m (logAnswer (logOutcome room m))
+      go (refused n p) e x = x
+      go (value b end) e x = at-book b end (ltb room maxLog) refl x
+
+-- ---- the call
+
+module _ {s before after : List ℕ} {r : LogAnswer} where
+  log-call : Explains (readBook s) before after r → LoggedAs (logOutcome (length before) (readBook s)) before after r → LogCall s before after r
+  log-call x l = record { said = l; demand-3 = x; nine = rw (l .answered) (log-nine s (length before)) }
+
+  pub logged-of : {b : OrderBook} {end : ℕ} → WellFormed b → readBook s ≡ value b end → LoggedAs (logOutcome (length before) (value b end)) before after r → LogCall s before after r
+  logged-of {b} {end} w e l = log-call (rw e (explains w end l)) (rw e l)
+
+module _ {s before : List ℕ} where
+  pub refused-of : {n p : ℕ} → readBook s ≡ refused n p → LogCall s before before (LogAnswer.Refused n p)
+  unfolding logOutcome
+  refused-of {n} {p} e = log-call (rw e refl) (rw e (logged-refused n p before))
+
+  pub short-of : {b : OrderBook} {end : ℕ} → readBook s ≡ value b end → length before < maxLog → LogCall s before before (LogAnswer.Refused 8 0)
+  unfolding logOutcome
+  short-of e l = log-call (rw e (λ f x y k. omega (arith, l))) (rw (e, lt-ltb _ _ l) (logged-refused 8 0 before))

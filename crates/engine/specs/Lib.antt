@@ -1,9 +1,3 @@
-pub mod Meaning
-pub mod Problem
-pub mod Answer
+pub mod Calls
 pub mod Contracts
-pub mod Steps
-pub mod Demand2
-pub mod Demand3
-pub mod Logs
 pub mod Orders

@@ -6,23 +6,19 @@ use lib.Count.{ones}
 use lib.IntN.{pos, negsuc}
 use Rattle.sets.specs.Sets.{bit, has, insert, subset, disjoint, diff, membersFrom, membersBelow, members}
 use Rattle.literals.specs.Literal.{Literal, variable, ofByte, byteOf}
-use Rattle.literals.specs.Truth.{holds, obeys, allHold, yesBit, noBit, yesMask, noMask}
+use Rattle.literals.specs.Truth.{holds, obeys, allHold, yesBit, noBit, yesMask, noMask, allHoldMasks}
 use Rattle.literals.specs.declared.LiteralSet.{LiteralSet}
 use Rattle.book.specs.Limits.{maxLog}
-use Rattle.book.specs.Format.{marked, pair, isCost, opened, rising, headerValues, headerAt, costValues, costAt, ruleValues, ruleAt, factValues, factAt, atFact, endAt, many, factsFrom, fromRules, readBook}
+use Rattle.book.specs.Format.{marked, pair, isCost, opened, rising, headerValues, headerAt, costValues, costAt, ruleValues, ruleAt, factValues, factAt, atFact, endAt, many, factsFrom, fromRules, Read, OrderBook, readBook}
 use Rattle.book.specs.Answer.{table, padded}
 use Rattle.book.specs.Orders.{order-a, order-b, order-c, order-d, order-e, order-f, order-g, order-h, order-i, order-j}
 use Rattle.sat.specs.Meaning.{everyUnder, everyFilling, someFilling, obeysRules, isModel}
-use Rattle.consequence.specs.Meaning.{collect}
-use Rattle.step.specs.Examples.{computed}
-use Rattle.log.specs.Meaning.{literalsOf, listBytes, twoBytes, fourBytes, stepBytes, stepsBytes, okBytes, totalOf, logBytes, after, runFrom}
-use Rattle.log.specs.Contracts.{runOf}
-use Rattle.engine.specs.Meaning.{models, hasModel, follows, yesConsequence, noConsequence, withModel}
-use Rattle.engine.specs.Problem.{problemOf}
-use Rattle.engine.specs.Answer.{consequenceAnswer}
-use Rattle.engine.specs.Contracts.{between, stepSays}
-use Rattle.engine.specs.Steps.{stepAnswer}
-use Rattle.engine.specs.Logs.{ofRun, logOutcome, logAnswer, bufferAfter}
+use Rattle.problem.specs.Problem.{problemOf, costOf}
+use Rattle.consequence.specs.Meaning.{models, hasModel, follows, collect, yesConsequence, noConsequence, theoryOf, obeying, contradicts, forcesYes, forcesNo, yesForced, noForced}
+use Rattle.step.specs.Meaning.{Question, sumBelow, setCost, yesGoals, noGoals, goals, goalLiteral, reasonsOn, reasonsOff, againstOn, againstOff, refutes, isCandidate, candidateCost, before, earlier, firstOf, candidate, candidatesFor, candidatesBelow, candidates, theStep, Answer, newOn, newOff, stepFrom, answerFrom, stepOf}
+use Rattle.log.specs.Format.{listBytes, twoBytes, fourBytes, recordBytes, recordsBytes, okBytes, logBytes}
+use Rattle.log.specs.Meaning.{literalsOf, costsWritten, withNew, runFrom, runOf, runFor}
+use Rattle.engine.specs.Calls.{withModel, consequenceAnswer, between, stepSays, stepFor, stepAnswer, ofRun, logOutcome, logAnswer, bufferAfter}
 use Rattle.engine.specs.declared.ConsequenceAnswer.{ConsequenceAnswer}
 use Rattle.engine.specs.declared.ConsequenceAnswer.the-variants as Consequence
 use Rattle.engine.specs.declared.StepAnswer.{StepAnswer}
@@ -32,6 +28,15 @@ use Rattle.engine.specs.declared.LogAnswer.the-variants as Log
 
 abbrev set : ℕ → ℕ → LiteralSet
 set y n = record { yes = y; no = n }
+
+-- The definitions that the meaning of a step computes with, and those of a book and its models, named once each.
+unfoldable computed : Question → Answer
+unfolding stepOf answerFrom stepFrom newOn newOff theStep candidates candidatesBelow candidatesFor candidate firstOf earlier before candidateCost isCandidate refutes againstOn againstOff reasonsOn reasonsOff goalLiteral goals noGoals yesGoals setCost sumBelow costOf yesForced noForced forcesYes forcesNo contradicts obeying
+computed q = stepOf q
+
+unfoldable readAndPosed : List ℕ → Read OrderBook
+unfolding problemOf theoryOf table padded yesConsequence noConsequence follows hasModel models collect isModel obeysRules someFilling everyFilling everyUnder holds obeys allHold allHoldMasks bit has insert subset disjoint diff readBook fromRules factsFrom many endAt atFact factAt factValues ruleAt ruleValues costAt costValues headerAt headerValues rising opened isCost pair marked variable ofByte yesMask yesBit noMask noBit
+readAndPosed s = readBook s
 
 -- ---- the orders
 
@@ -46,7 +51,7 @@ abbrev refuses : List ℕ → ℕ → ℕ → Row
 refuses s number place = record { bytes = s; consequence = Consequence.Refused number place; answer = Log.Refused number place; log = [] }
 
 abbrev logs : List ℕ → LiteralSet → ℕ → ℕ → ℕ → List ℕ → Row
-logs s c length steps total bytes = record { bytes = s; consequence = Consequence.Forced c; answer = Log.Written length steps total; log = bytes }
+logs s c size steps total bytes = record { bytes = s; consequence = Consequence.Forced c; answer = Log.Written size steps total; log = bytes }
 
 -- In c the consequence is 1 2 3 4, in d 1, in g -1, in h 1, in i 1 2 3.
 unfoldable pub orders : List Row
@@ -75,7 +80,7 @@ meant s =
     }
 
 pub orders-agree : map (λ (r : Row). meant (r .bytes)) orders ≡ orders
-unfolding orders meant computed order-a order-b order-c order-d order-e order-f order-g order-h order-i order-j consequenceAnswer logOutcome logAnswer bufferAfter ofRun runOf runFrom after logBytes totalOf okBytes stepsBytes stepBytes listBytes literalsOf twoBytes fourBytes withModel problemOf table padded yesConsequence noConsequence follows hasModel models collect isModel obeysRules someFilling everyFilling everyUnder holds obeys allHold bit has insert subset disjoint diff readBook fromRules factsFrom many endAt atFact factAt factValues ruleAt ruleValues costAt costValues headerAt headerValues rising opened isCost pair marked variable ofByte byteOf yesMask yesBit noMask noBit members membersBelow membersFrom ones
+unfolding orders meant computed readAndPosed order-a order-b order-c order-d order-e order-f order-g order-h order-i order-j consequenceAnswer withModel logOutcome logAnswer bufferAfter ofRun runFor runOf runFrom withNew logBytes costsWritten okBytes recordsBytes recordBytes listBytes literalsOf twoBytes fourBytes byteOf members membersBelow membersFrom ones
 orders-agree = refl
 
 -- ---- single steps
@@ -104,5 +109,5 @@ steps =
     ∷ []
 
 pub steps-agree : map (λ (r : StepRow). from (r .bytes) (r .yes) (r .no) (stepAnswer (r .yes) (r .no) (readBook (r .bytes)))) steps ≡ steps
-unfolding steps computed order-c order-d order-g order-h order-i stepAnswer stepSays between withModel problemOf table padded yesConsequence noConsequence follows hasModel models collect isModel obeysRules someFilling everyFilling everyUnder holds obeys allHold bit has insert subset disjoint diff readBook fromRules factsFrom many endAt atFact factAt factValues ruleAt ruleValues costAt costValues headerAt headerValues rising opened isCost pair marked variable ofByte yesMask yesBit noMask noBit
+unfolding steps computed readAndPosed order-c order-d order-g order-h order-i stepAnswer stepFor stepSays between withModel
 steps-agree = refl

@@ -1,24 +1,19 @@
 // The public calls. Each is handed the book's bytes and reads them first; none asks anything of its caller.
 ghost use mathlib.Core.Path.{_≡_};
+ghost use Prim.Native.Nat.{_≤_};
+ghost use lib.ListN.{length};
 ghost use Rattle.book.specs.Limits.{maxLog};
 ghost use Rattle.book.specs.Format.{readBook};
 ghost use Rattle.book.specs.Answer.{bookAnswer, tableAnswer};
-ghost use Prim.Native.Nat.{_≤_};
-ghost use lib.ListN.{length};
-ghost use Rattle.engine.specs.Answer.{Modelled, consequenceAnswer};
-ghost use Rattle.engine.specs.Steps.{stepAnswer};
-ghost use Rattle.engine.specs.Contracts.{Posable, FoundModel, FoundForced, Steppable, between, stepIn, stepSays, stepQuestion, Stepping, Loggable, Logging, logQuestion};
-ghost use Rattle.log.specs.Contracts.{runOf};
-ghost use Rattle.engine.specs.Logs.{Logged, LoggedAs, logIn, ofRun};
-
-mod problem;
-
+ghost use Rattle.log.specs.Meaning.{runOf};
+ghost use Rattle.engine.specs.Calls.{ModelCall, ConsequenceCall, StepCall, between, stepSays, LogCall, LoggedAs, ofRun};
+ghost use Rattle.engine.specs.Contracts.{Searchable, FoundModel, FoundForced, Steppable, stepIn, stepQuestion, Stepping, Loggable, Logging, logIn, logQuestion};
 use book::Book;
 use book::Reading;
 use consequence::Consequence;
 use literals::LiteralSet;
 use log::Written;
-use problem::Posing;
+use problem::MaskedProblem;
 use sat::Partial;
 use step::Next;
 
@@ -81,7 +76,7 @@ pub fn read_costs(s: &[u8]) -> [[u16; 2]; Book::MAX_CHOICES]
 // One model of the book.
 // Ruled out: refusal 9 for every book; a filling that obeys the rules and denies a given fact.
 pub fn model(s: &[u8]) -> ModelAnswer
-    ensures { λ r. ⌜ Modelled (now (s .entry)) r ⌝ }
+    ensures { λ r. ⌜ ModelCall (now (s .entry)) r ⌝ }
 {
     let reading = book::read(s);
     let outcome = reading.outcome;
@@ -89,14 +84,14 @@ pub fn model(s: &[u8]) -> ModelAnswer
         book::Outcome::Refused { number, place } => ModelAnswer::Refused { number, place },
         book::Outcome::Accepted => {
             let b = reading.book;
-            search_model(problem::pose(b))
+            search_model(problem::of_book(b))
         }
     }
 }
 
 // A model of the problem, or refusal 9.
-fn search_model(p: Posing) -> ModelAnswer
-    requires { ⌜ Posable p ⌝ }
+fn search_model(p: MaskedProblem) -> ModelAnswer
+    requires { ⌜ Searchable p ⌝ }
     ensures { λ r. ⌜ FoundModel p r ⌝ }
 {
     let yes = p.yes;
@@ -118,7 +113,7 @@ fn search_model(p: Posing) -> ModelAnswer
 // The consequence of the book: demand 2.
 // Ruled out: a fixed consequence; a consequence with a helper in it.
 pub fn consequence(s: &[u8]) -> ConsequenceAnswer
-    ensures { λ r. ⌜ r ≡ consequenceAnswer (readBook (now (s .entry))) ⌝ }
+    ensures { λ r. ⌜ ConsequenceCall (now (s .entry)) r ⌝ }
 {
     let reading = book::read(s);
     let outcome = reading.outcome;
@@ -126,14 +121,14 @@ pub fn consequence(s: &[u8]) -> ConsequenceAnswer
         book::Outcome::Refused { number, place } => ConsequenceAnswer::Refused { number, place },
         book::Outcome::Accepted => {
             let b = reading.book;
-            propagate(problem::pose(b))
+            propagate(problem::of_book(b))
         }
     }
 }
 
 // What the given facts force, or refusal 9.
-fn propagate(p: Posing) -> ConsequenceAnswer
-    requires { ⌜ Posable p ⌝ }
+fn propagate(p: MaskedProblem) -> ConsequenceAnswer
+    requires { ⌜ Searchable p ⌝ }
     ensures { λ r. ⌜ FoundForced p r ⌝ }
 {
     let yes = p.yes;
@@ -155,7 +150,7 @@ fn propagate(p: Posing) -> ConsequenceAnswer
 // The next step from a known set: the variables known to be yes, and those known to be no.
 // Ruled out: a step that is a contradiction but not the cheapest; "nothing left" while a choice of the consequence is unknown.
 pub fn next_step(s: &[u8], known_yes: u64, known_no: u64) -> StepAnswer
-    ensures { λ r. ⌜ r ≡ stepAnswer «known_yes» «known_no» (readBook (now (s .entry))) ⌝ }
+    ensures { λ r. ⌜ StepCall (now (s .entry)) «known_yes» «known_no» r ⌝ }
 {
     let reading = book::read(s);
     let outcome = reading.outcome;
@@ -168,7 +163,7 @@ pub fn next_step(s: &[u8], known_yes: u64, known_no: u64) -> StepAnswer
                 yes: known_yes,
                 no: known_no,
             };
-            step_of(problem::pose(b), costs, known)
+            step_of(problem::of_book(b), costs, known)
         }
     }
 }
@@ -190,7 +185,7 @@ fn lies_between(facts: LiteralSet, known: LiteralSet, forced: LiteralSet) -> boo
 }
 
 // The next step of a problem, or refusal 9 or 10 or 11.
-fn step_of(p: Posing, costs: [[u16; 2]; Book::MAX_CHOICES], known: LiteralSet) -> StepAnswer
+fn step_of(p: MaskedProblem, costs: [[u16; 2]; Book::MAX_CHOICES], known: LiteralSet) -> StepAnswer
     requires { ⌜ Steppable p costs ⌝ }
     ensures { λ r. ⌜ r ≡ stepIn p costs known ⌝ }
 {
@@ -210,7 +205,7 @@ fn step_of(p: Posing, costs: [[u16; 2]; Book::MAX_CHOICES], known: LiteralSet) -
 
 // The step from a known set that lies between the given facts and the consequence.
 fn take_step(
-    p: Posing,
+    p: MaskedProblem,
     costs: [[u16; 2]; Book::MAX_CHOICES],
     forced: LiteralSet,
     known: LiteralSet,
@@ -252,7 +247,7 @@ fn take_step(
 // The log of the book into a lent buffer: demand 3.
 // Ruled out: OK with 0 steps for every book; a first step with all given facts as reasons and everything as new, the rest for show.
 pub fn log(s: &[u8], buffer: &mut [u8]) -> LogAnswer
-    ensures { λ r. ⌜ Logged (now (s .entry)) (now (buffer .entry)) (now (buffer .exit)) r ⌝ }
+    ensures { λ r. ⌜ LogCall (now (s .entry)) (now (buffer .entry)) (now (buffer .exit)) r ⌝ }
 {
     let reading = book::read(s);
     let outcome = reading.outcome;
@@ -267,13 +262,13 @@ pub fn log(s: &[u8], buffer: &mut [u8]) -> LogAnswer
             }
             let costs = book::read_costs(s);
             let b = reading.book;
-            log_of(problem::pose(b), costs, buffer)
+            log_of(problem::of_book(b), costs, buffer)
         }
     }
 }
 
 // The log of a problem into a buffer that has room, or refusal 9 or 11.
-fn log_of(p: Posing, costs: [[u16; 2]; Book::MAX_CHOICES], buffer: &mut [u8]) -> LogAnswer
+fn log_of(p: MaskedProblem, costs: [[u16; 2]; Book::MAX_CHOICES], buffer: &mut [u8]) -> LogAnswer
     requires { ⌜ Loggable p costs ⌝ }
     requires { ⌜ maxLog ≤ length (now buffer) ⌝ }
     ensures { λ r. ⌜ LoggedAs (logIn p costs) (now (buffer .entry)) (now (buffer .exit)) r ⌝ }
@@ -286,7 +281,7 @@ fn log_of(p: Posing, costs: [[u16; 2]; Book::MAX_CHOICES], buffer: &mut [u8]) ->
 
 // The log of a problem whose given facts force this set.
 fn write_log(
-    p: Posing,
+    p: MaskedProblem,
     costs: [[u16; 2]; Book::MAX_CHOICES],
     forced: LiteralSet,
     buffer: &mut [u8],

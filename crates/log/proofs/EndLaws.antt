@@ -9,11 +9,13 @@ use native.Mathlib.Omega.{arith}
 use lib.ListN.{length, getD, take, drop, set, length-drop, length-append}
 use lib.Seq.{take-suc, drop-cons, set-at, append-snoc, length-take-le}
 use Rattle.literals.specs.declared.LiteralSet.{LiteralSet}
+use Rattle.book.specs.Limits.{maxLog}
 use Rattle.step.specs.Meaning.{Step}
 use Rattle.step.specs.declared.Next.{Next}
 use Rattle.step.specs.declared.Next.the-variants as Next
-use Rattle.log.specs.Meaning.{Run, done, stuck, okBytes, logBytes, totalOf}
-use Rattle.log.specs.Contracts.{Put, Ended, Ran, BuiltAs, WrittenAs, LogWritten}
+use Rattle.log.specs.Format.{okBytes, logBytes}
+use Rattle.log.specs.Meaning.{Run, done, stuck}
+use Rattle.log.specs.Contracts.{Put, Ended, Ran, BuiltAs, WrittenAs, LogWritten, totalOf}
 use Rattle.log.specs.declared.Built.{Built}
 use Rattle.log.specs.declared.Written.{Written}
 use Rattle.log.specs.declared.Written.the-variants as Written
@@ -71,10 +73,10 @@ written-log (done ss) r before after a e h =
     }
 written-log stuck r before after a e h = let z : _≡_ {A = ℕ} 0 1 = cc (a .said) in absurd (omega arith)
 
-pub built-short : (run : Run) (r : Built) → Ran run r → r .stuck ≡ false → r .length ≤ 547
+pub built-short : (run : Run) (r : Built) → Ran run r → r .stuck ≡ false → r .length ≤ maxLog
 built-short (done ss) r a e = a .said .short
 built-short stuck r a e = let z : _≡_ {A = ℕ} 0 1 = cc (a .said) in absurd (omega arith)
 
-pub built-room : (run : Run) (r : Built) → Ran run r → r .stuck ≡ false → length (r .bytes) ≡ 547
+pub built-room : (run : Run) (r : Built) → Ran run r → r .stuck ≡ false → length (r .bytes) ≡ maxLog
 built-room (done ss) r a e = a .said .room
 built-room stuck r a e = let z : _≡_ {A = ℕ} 0 1 = cc (a .said) in absurd (omega arith)

@@ -1,6 +1,6 @@
 -- Writing a list of literals, member by member.
 -- Assumes nothing.
-use mathlib.Core.Path.{_≡_, refl, sym, ap, _∙_}
+use mathlib.Core.Path.{_≡_, refl, sym, ap, ap₂, _∙_}
 use mathlib.Core.List.{List, [], _∷_, _++_, map, map-append, append-assoc, append-nil}
 use Prim.Native.Nat.{ℕ, zero, suc, _+_, _^_, _≤_, _<_}
 use native.Mathlib.Numerals.{add-one}
@@ -13,7 +13,9 @@ use Rattle.sets.specs.Laws.Count.{ones-remove}
 use Rattle.sets.specs.Laws.Members.{members-zero, members-length, members-below, members-least}
 use Rattle.literals.specs.Literal.{Literal, byteOf}
 use Rattle.step.specs.Meaning.{literalOf}
-use Rattle.log.specs.Meaning.{literalsOf, listBytes}
+use Rattle.log.specs.Format.{listBytes}
+use Rattle.log.specs.Meaning.{literalsOf}
+use Rattle.log.specs.Laws.Lists.{list-length-is}
 use Rattle.log.specs.Contracts.{memberByte, Put}
 use Rattle.log.proofs.StoreLaws.{put-append, put-byte, put-none, put-length}
 
@@ -22,14 +24,14 @@ map-twice f g [] = refl
 map-twice f g (x ∷ xs) = ap (λ l. f (g x) ∷ l) (map-twice f g xs)
 
 -- the bytes of a list are the number and a byte for each member
-pub list-bytes : (on off : ℕ) → listBytes on off ≡ count (union on off) ∷ map (memberByte on) (members (union on off))
+pub list-bytes : (on off : ℕ) → listBytes (literalsOf on off) ≡ count (union on off) ∷ map (memberByte on) (members (union on off))
 unfolding listBytes literalsOf
-list-bytes on off = ap (λ l. count (union on off) ∷ l) (map-twice byteOf (λ v. literalOf v (has on v)) (members (union on off)))
+list-bytes on off = ap₂ (λ (n : ℕ) (l : List ℕ). n ∷ l) (list-length-is on off) (map-twice byteOf (λ v. literalOf v (has on v)) (members (union on off)))
 
 pub members-count : (m : ℕ) → m < 2 ^ 64 → length (members m) ≡ count m
 members-count m h = ap length (sym (members-below 64 m h)) ∙ members-length 64 m h
 
-pub list-length : (on off : ℕ) → union on off < 2 ^ 64 → length (listBytes on off) ≡ suc (count (union on off))
+pub list-length : (on off : ℕ) → union on off < 2 ^ 64 → length (listBytes (literalsOf on off)) ≡ suc (count (union on off))
 list-length on off h = ap length (list-bytes on off) ∙ ap suc (length-map (members (union on off)) (memberByte on) ∙ members-count (union on off) h)
 
 -- the least member, and the others
@@ -76,5 +78,5 @@ module _ (out₀ : List ℕ) (start : ℕ) (f : ℕ → ℕ) (all : ℕ) where
       rw same (w .put)
 
 -- the number first, and then the members
-pub listed : (a out : List ℕ) (at on off i : ℕ) → Put (set a at (count (union on off))) (at + 1) (map (memberByte on) (members (union on off))) out i → Put a at (listBytes on off) out i
+pub listed : (a out : List ℕ) (at on off i : ℕ) → Put (set a at (count (union on off))) (at + 1) (map (memberByte on) (members (union on off))) out i → Put a at (listBytes (literalsOf on off)) out i
 listed a out at on off i p = rw (list-bytes on off) (put-append (count (union on off) ∷ []) (map (memberByte on) (members (union on off))) (put-byte a at (count (union on off))) p)

@@ -7,8 +7,9 @@ use native.Mathlib.Omega.{arith}
 use lib.ListN.{length, set, length-append}
 use Rattle.literals.specs.Literal.{Literal, byteOf}
 use Rattle.step.specs.Meaning.{Step}
-use Rattle.log.specs.Meaning.{ST, OK, listBytes, twoBytes, fourBytes, stepBytes, okBytes}
-use Rattle.log.specs.Contracts.{Put}
+use Rattle.log.specs.Format.{recordBytes, ST, OK, listBytes, twoBytes, fourBytes, okBytes}
+use Rattle.log.specs.Meaning.{literalsOf}
+use Rattle.log.specs.Contracts.{Put, stepBytes}
 use Rattle.log.proofs.StoreLaws.{put-append, put-byte, put-length}
 
 -- the parts of a step's record, one after the other
@@ -16,23 +17,23 @@ abbrev pub upToGoal : Step → List ℕ
 upToGoal s = ST ++ (byteOf (s .goal) ∷ [])
 
 abbrev pub upToReasons : Step → List ℕ
-upToReasons s = upToGoal s ++ listBytes (s .reasons-on) (s .reasons-off)
+upToReasons s = upToGoal s ++ listBytes (literalsOf (s .reasons-on) (s .reasons-off))
 
 abbrev pub upToNew : Step → List ℕ
-upToNew s = upToReasons s ++ listBytes (s .new-on) (s .new-off)
+upToNew s = upToReasons s ++ listBytes (literalsOf (s .new-on) (s .new-off))
 
 pub step-parts : (s : Step) → stepBytes s ≡ upToNew s ++ twoBytes (s .cost)
-unfolding stepBytes
+unfolding recordBytes
 step-parts s = simp append-assoc
 
 -- how long the parts are
-pub reasons-length : (s : Step) → length (upToReasons s) ≡ 3 + length (listBytes (s .reasons-on) (s .reasons-off))
-reasons-length s = length-append (upToGoal s) (listBytes (s .reasons-on) (s .reasons-off))
+pub reasons-length : (s : Step) → length (upToReasons s) ≡ 3 + length (listBytes (literalsOf (s .reasons-on) (s .reasons-off)))
+reasons-length s = length-append (upToGoal s) (listBytes (literalsOf (s .reasons-on) (s .reasons-off)))
 
-pub new-length : (s : Step) → length (upToNew s) ≡ 3 + length (listBytes (s .reasons-on) (s .reasons-off)) + length (listBytes (s .new-on) (s .new-off))
-new-length s = length-append (upToReasons s) (listBytes (s .new-on) (s .new-off)) ∙ ap (λ k. k + length (listBytes (s .new-on) (s .new-off))) (reasons-length s)
+pub new-length : (s : Step) → length (upToNew s) ≡ 3 + length (listBytes (literalsOf (s .reasons-on) (s .reasons-off))) + length (listBytes (literalsOf (s .new-on) (s .new-off)))
+new-length s = length-append (upToReasons s) (listBytes (literalsOf (s .new-on) (s .new-off))) ∙ ap (λ k. k + length (listBytes (literalsOf (s .new-on) (s .new-off)))) (reasons-length s)
 
-pub step-length : (s : Step) → length (stepBytes s) ≡ 5 + length (listBytes (s .reasons-on) (s .reasons-off)) + length (listBytes (s .new-on) (s .new-off))
+pub step-length : (s : Step) → length (stepBytes s) ≡ 5 + length (listBytes (literalsOf (s .reasons-on) (s .reasons-off))) + length (listBytes (literalsOf (s .new-on) (s .new-off)))
 unfolding twoBytes
 step-length s = omega (arith, ap length (step-parts s), length-append (upToNew s) (twoBytes (s .cost)), new-length s)
 
@@ -43,10 +44,10 @@ module _ (a : List ℕ) (at : ℕ) (s : Step) (room : at + length (stepBytes s) 
   pub goal-put : {b : List ℕ} {k g : ℕ} → Put a at ST b k → g ≡ byteOf (s .goal) → Put a at (upToGoal s) (set b k g) (k + 1)
   goal-put {b} {k} {g} p e = rw e (put-append ST (byteOf (s .goal) ∷ []) p (put-byte b k (byteOf (s .goal))))
 
-  pub reasons-room : {b : List ℕ} {k : ℕ} → Put a at (upToGoal s) b k → k + length (listBytes (s .reasons-on) (s .reasons-off)) ≤ length b
+  pub reasons-room : {b : List ℕ} {k : ℕ} → Put a at (upToGoal s) b k → k + length (listBytes (literalsOf (s .reasons-on) (s .reasons-off))) ≤ length b
   reasons-room p = omega (arith, step-length s, p .place, put-length (upToGoal s) p)
 
-  pub new-room : {b : List ℕ} {k : ℕ} → Put a at (upToReasons s) b k → k + length (listBytes (s .new-on) (s .new-off)) ≤ length b
+  pub new-room : {b : List ℕ} {k : ℕ} → Put a at (upToReasons s) b k → k + length (listBytes (literalsOf (s .new-on) (s .new-off))) ≤ length b
   new-room p = omega (arith, step-length s, reasons-length s, p .place, put-length (upToReasons s) p)
 
   pub cost-room : {b : List ℕ} {k : ℕ} → Put a at (upToNew s) b k → k + 2 ≤ length b

@@ -1,22 +1,23 @@
 -- What the functions of the log ask and say.
 use mathlib.Core.Path.{_≡_}
 use mathlib.Core.Bool.{true, false}
-use mathlib.Core.List.{List, [], _∷_, _++_}
-use Prim.Native.Nat.{ℕ, suc, _+_, _≤_}
+use mathlib.Core.List.{List, [], _∷_, _++_, map}
+use Prim.Native.Nat.{ℕ, _+_, _≤_}
 use lib.IntN.{ℤ}
 use lib.ListN.{length, take, drop}
 use lib.Seq.{sets}
-use Rattle.sets.specs.Sets.{has, count}
+use Rattle.sets.specs.Sets.{has}
 use Rattle.literals.specs.Literal.{Literal, byteOf}
 use Rattle.literals.specs.declared.LiteralSet.{LiteralSet}
 use Rattle.book.specs.Limits.{maxLog}
-use Rattle.consequence.specs.Meaning.{yesForced, noForced}
-use Rattle.consequence.specs.Contracts.{problem}
-use Rattle.step.specs.Meaning.{Step, literalOf, Question, goals}
-use Rattle.step.specs.Contracts.{Asked, question}
+use Rattle.consequence.specs.Meaning.{Theory, yesForced, noForced}
+use Rattle.consequence.specs.Contracts.{maskTheory}
+use Rattle.step.specs.Meaning.{Step, literalOf}
+use Rattle.step.specs.Contracts.{Asked}
 use Rattle.step.specs.declared.Next.{Next}
 use Rattle.step.specs.declared.Next.the-variants as Next
-use Rattle.log.specs.Meaning.{Run, done, stuck, runFrom, okBytes, logBytes, totalOf}
+use Rattle.log.specs.Format.{recordBytes, recordsBytes, okBytes, logBytes}
+use Rattle.log.specs.Meaning.{Run, done, stuck, recordOf, costsWritten, logOf}
 use Rattle.log.specs.declared.Built.{Built}
 use Rattle.log.specs.declared.Written.{Written}
 use Rattle.log.specs.declared.Written.the-variants as Written
@@ -35,17 +36,28 @@ abbrev pub putStep : Literal → LiteralSet → LiteralSet → ℕ → Step
 putStep goal reasons new cost =
     record { goal = goal; reasons-on = reasons .yes; reasons-off = reasons .no; new-on = new .yes; new-off = new .no; cost = cost }
 
+-- The bytes of a step's record, and of several.
+abbrev pub stepBytes : Step → List ℕ
+stepBytes s = recordBytes (recordOf s)
+
+abbrev pub stepsBytes : List Step → List ℕ
+stepsBytes ss = recordsBytes (map recordOf ss)
+
+-- The sum of the step costs.
+abbrev pub totalOf : List Step → ℕ
+totalOf ss = costsWritten (map recordOf ss)
+
 -- ---- the whole log
 
--- The run of a question: with one turn more than there are goals, the last one finds nothing left.
-unfoldable pub runOf : Question → Run
-runOf q = runFrom (suc (count (goals q))) q
+-- The set c is what the given facts force over choices.
+pub record ForcedBy (t : Theory) (c facts : LiteralSet) : Type 0 where
+  pub yes-forced : c .yes ≡ yesForced t (facts .yes) (facts .no)
+  pub no-forced : c .no ≡ noForced t (facts .yes) (facts .no)
 
 -- What the next step asks, where the consequence is what the given facts force.
-pub record Logs (n : ℕ) (ys ns : List ℕ) (ch : ℕ) (table : List (List ℕ)) (c facts : LiteralSet) : Type 0 where
+pub record LogAsked (n : ℕ) (ys ns : List ℕ) (ch : ℕ) (table : List (List ℕ)) (c facts : LiteralSet) : Type 0 where
   pub asked : Asked n ys ns ch table c facts
-  pub yes-forced : c .yes ≡ yesForced (problem n ys ns ch) (facts .yes) (facts .no)
-  pub no-forced : c .no ≡ noForced (problem n ys ns ch) (facts .yes) (facts .no)
+  pub forced : ForcedBy (maskTheory n ys ns ch) c facts
 
 -- The end of a log, where no step follows.
 abbrev pub Ends : List ℕ → ℕ → ℕ → ℕ → Next → Built → Type 0
@@ -59,8 +71,8 @@ pub record Ended (bytes : List ℕ) (at steps total : ℕ) (next : Next) (r : Bu
 -- The log that was built is that of the run.
 pub record BuiltAs (ss : List Step) (r : Built) : Type 0 where
   pub not-stuck : r .stuck ≡ false
-  pub first-bytes : take (r .length) (r .bytes) ≡ logBytes ss
-  pub length-is : r .length ≡ length (logBytes ss)
+  pub first-bytes : take (r .length) (r .bytes) ≡ logBytes (logOf ss)
+  pub length-is : r .length ≡ length (logBytes (logOf ss))
   pub short : r .length ≤ maxLog
   pub room : length (r .bytes) ≡ maxLog
   pub steps-are : r .steps ≡ length ss
@@ -75,9 +87,9 @@ pub record Ran (run : Run) (r : Built) : Type 0 where
 
 -- The buffer holds the log and then its old bytes, and the answer is the log's length, its steps and its total; or it is as it was.
 pub record LogWritten (ss : List Step) (before after : List ℕ) (r : Written) : Type 0 where
-  pub buffer : after ≡ logBytes ss ++ drop (length (logBytes ss)) before
-  pub answered : r ≡ Written.Log (length (logBytes ss)) (length ss) (totalOf ss)
-  pub short : length (logBytes ss) ≤ maxLog
+  pub buffer : after ≡ logBytes (logOf ss) ++ drop (length (logBytes (logOf ss))) before
+  pub answered : r ≡ Written.Log (length (logBytes (logOf ss))) (length ss) (totalOf ss)
+  pub short : length (logBytes (logOf ss)) ≤ maxLog
 
 abbrev pub WritesAs : Run → List ℕ → List ℕ → Written → Type 0
 WritesAs (done ss) before after r = LogWritten ss before after r

@@ -1,2 +1,5 @@
+pub mod Format
 pub mod Meaning
+pub mod Demand3
 pub mod Contracts
+pub mod Laws

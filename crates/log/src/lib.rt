@@ -6,8 +6,9 @@ ghost use Prim.Native.Nat.{_+_, _<_, _≤_};
 ghost use lib.ListN.{length, take, drop};
 ghost use Rattle.book.specs.Limits.{maxLog};
 ghost use Rattle.step.specs.Contracts.{question};
-ghost use Rattle.log.specs.Meaning.{listBytes, fourBytes, stepBytes, okBytes};
-ghost use Rattle.log.specs.Contracts.{Put, memberByte, putStep, Ended, Logs, runOf, Ran, WrittenAs};
+ghost use Rattle.log.specs.Format.{listBytes, fourBytes, okBytes};
+ghost use Rattle.log.specs.Meaning.{literalsOf, runOf};
+ghost use Rattle.log.specs.Contracts.{Put, memberByte, putStep, stepBytes, Ended, LogAsked, Ran, WrittenAs};
 use book::Book;
 use literals::LiteralSet;
 use step::Next;
@@ -29,9 +30,9 @@ fn member_byte(set: LiteralSet, v: u32) -> u8
 }
 
 // The number of a set's literals, and the literals, rising by variable.
-pub fn put_list(out: &mut [u8], at: usize, set: LiteralSet) -> usize
-    requires { ⌜ at + length (listBytes (set .yes) (set .no)) ≤ length (now out) ⌝ }
-    ensures { λ r. ⌜ Put (now (out .entry)) at (listBytes (set .yes) (set .no)) (now (out .exit)) r ⌝ }
+fn put_list(out: &mut [u8], at: usize, set: LiteralSet) -> usize
+    requires { ⌜ at + length (listBytes (literalsOf (set .yes) (set .no))) ≤ length (now out) ⌝ }
+    ensures { λ r. ⌜ Put (now (out .entry)) at (listBytes (literalsOf (set .yes) (set .no))) (now (out .exit)) r ⌝ }
 {
     let all = sets::union(set.yes, set.no);
     out[at] = sets::count(all) as u8;
@@ -69,7 +70,7 @@ fn put_four(out: &mut [u8], at: usize, n: u32) -> usize
 }
 
 // The record of a step: goal literal, number of facts, the facts, number of new literals, the new literals, the cost.
-pub fn put_step(
+fn put_step(
     out: &mut [u8],
     at: usize,
     goal: i8,
@@ -88,7 +89,7 @@ pub fn put_step(
 }
 
 // The record that ends a log: the number of steps, and the sum of the step costs.
-pub fn put_ok(out: &mut [u8], at: usize, steps: u8, total: u32) -> usize
+fn put_ok(out: &mut [u8], at: usize, steps: u8, total: u32) -> usize
     requires { ⌜ at + length (okBytes steps total) ≤ length (now out) ⌝ }
     ensures { λ r. ⌜ Put (now (out .entry)) at (okBytes steps total) (now (out .exit)) r ⌝ }
 {
@@ -131,7 +132,7 @@ fn stopped(bytes: [u8; Book::MAX_LOG]) -> Built
 
 // The end of a log, where no step follows: OK where nothing is left.
 fn ended(bytes: [u8; Book::MAX_LOG], at: usize, steps: u8, total: u32, next: Next) -> Built
-    requires { ⌜ at + 7 ≤ length bytes ⌝ }
+    requires { ⌜ at + length (okBytes steps total) ≤ length bytes ⌝ }
     ensures { λ r. ⌜ Ended bytes at steps total next r ⌝ }
 {
     let mut out = bytes;
@@ -157,7 +158,7 @@ fn ended(bytes: [u8; Book::MAX_LOG], at: usize, steps: u8, total: u32, next: Nex
 }
 
 // The log of a problem: take the step, add its new literals to what is known, repeat until nothing is left.
-pub fn build(
+fn build(
     n: u32,
     yes: &[u64],
     no: &[u64],
@@ -166,7 +167,7 @@ pub fn build(
     consequence: LiteralSet,
     facts: LiteralSet,
 ) -> Built
-    requires { ⌜ Logs n (now yes) (now no) choices costs consequence facts ⌝ }
+    requires { ⌜ LogAsked n (now yes) (now no) choices costs consequence facts ⌝ }
     ensures { λ r. ⌜ Ran (runOf (question n (now (yes .entry)) (now (no .entry)) choices costs consequence facts)) r ⌝ }
 {
     let mut bytes = [0u8; Book::MAX_LOG];
@@ -220,7 +221,7 @@ pub fn write(
     facts: LiteralSet,
     buffer: &mut [u8],
 ) -> Written
-    requires { ⌜ Logs n (now yes) (now no) choices costs consequence facts ⌝ }
+    requires { ⌜ LogAsked n (now yes) (now no) choices costs consequence facts ⌝ }
     requires { ⌜ maxLog ≤ length (now buffer) ⌝ }
     ensures { λ r. ⌜ WrittenAs (runOf (question n (now (yes .entry)) (now (no .entry)) choices costs consequence facts)) (now (buffer .entry)) (now (buffer .exit)) r ⌝ }
 {

@@ -13,8 +13,8 @@ use mir.Val.{SFits, toZ, ofZ}
 use mir.Facts.{toZ-pos, toZ-ofZ}
 use Rattle.literals.specs.Literal.{variable}
 use Rattle.book.specs.Limits.{maxChoices}
-use Rattle.step.specs.Meaning.{costOf, literalOf}
-use Rattle.step.specs.Contracts.{literalCost}
+use Rattle.problem.specs.Problem.{costOf, literalCost}
+use Rattle.step.specs.Meaning.{literalOf}
 
 pub yes-cost : (table : List (List ℕ)) (l : ℤ) (r : ℕ) → r ≡ variable l → 0 < variable l → ltZ (pos 0) l ≡ true
     → getD (getD table (r - 1) []) 0 0 ≡ literalCost table l

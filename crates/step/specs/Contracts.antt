@@ -2,31 +2,26 @@
 use mathlib.Core.Path.{_≡_}
 use mathlib.Core.Bool.{Bool, not, cond}
 use mathlib.Core.List.{List, []}
-use Prim.Native.Nat.{ℕ, zero, suc, _+_, _*_, _/_, _%_, _^_, _≤_, _<_}
+use Prim.Native.Nat.{ℕ, zero, suc, _+_, _-_, _*_, _/_, _%_, _^_, _≤_, _<_}
 use lib.IntN.{pos, negsuc}
 use lib.ListN.{length, getD}
 use Rattle.sets.specs.Sets.{bit, full, union, inter, diff, insert, Within}
 use Rattle.literals.specs.Literal.{Literal}
 use Rattle.literals.specs.declared.LiteralSet.{LiteralSet}
-use Rattle.book.specs.Limits.{maxVariables, maxChoices, maxRules, maxCost}
+use Rattle.book.specs.Limits.{maxVariables, maxChoices, maxCost}
 use Rattle.sat.specs.Meaning.{Model, NoModel}
 use Rattle.sat.specs.Contracts.{Posed}
-use Rattle.consequence.specs.Meaning.{yesForced, noForced}
-use Rattle.consequence.specs.Laws.{NoModelOf}
-use Rattle.consequence.specs.Contracts.{problem}
-use Rattle.step.specs.Meaning.{costOf, sumBelow, literalOf, Question, goals, againstOn, againstOff, candidateCost, Answer, nothingLeft, noCandidate, Step, step, stepFrom}
+use Rattle.problem.specs.Limits.{mostRules}
+use Rattle.consequence.specs.Meaning.{yesForced, noForced, NoModelOf}
+use Rattle.consequence.specs.Contracts.{maskTheory}
+use Rattle.problem.specs.Problem.{costOf, literalCost}
+use Rattle.step.specs.Meaning.{sumBelow, literalOf, Question, asking, goals, againstOn, againstOff, candidateCost, Answer, nothingLeft, noCandidate, Step, step, stepFrom}
 use Rattle.step.specs.Cheapest.{Least, Between, Hit}
 use Rattle.step.specs.declared.Aim.{Aim}
 use Rattle.step.specs.declared.Part.{Part}
 use Rattle.step.specs.declared.Next.{Next}
 
 -- ---- costs
-
--- The cost of a literal. There is no variable 0.
-unfoldable pub literalCost : List (List ℕ) → Literal → ℕ
-literalCost table (pos zero) = 0
-literalCost table (pos (suc v)) = costOf table v 0
-literalCost table (negsuc v) = costOf table v 1
 
 -- The cost of the known literal over variable v + 1, and 0 where there is none.
 unfoldable pub weightOf : List (List ℕ) → ℕ → ℕ → ℕ → ℕ
@@ -42,19 +37,19 @@ total ws n s = sumBelow n (λ v. bit s v * getD ws v 0)
 
 -- ---- the order as one number
 
--- What a key of 64 bits has room for: costs, variables of goals, and sets.
+-- What a key has room for: the cost of each variable's literal and of a goal's opposite, variables of goals, and sets of choices.
 abbrev pub costRoom : ℕ
-costRoom = 65536
+costRoom = maxCost * (maxVariables + 1) + 1
 
 abbrev pub goalRoom : ℕ
-goalRoom = 64
+goalRoom = maxChoices
 
 abbrev pub setRoom : ℕ
-setRoom = 4294967296
+setRoom = 2 ^ maxChoices
 
--- The key of no candidate.
+-- The key of no candidate: the greatest number of 64 bits.
 abbrev pub noKey : ℕ
-noKey = 18446744073709551615
+noKey = 2 ^ 64 - 1
 
 abbrev pub keyOf : ℕ → ℕ → ℕ → ℕ
 keyOf cost goal s = (cost * goalRoom + goal) * setRoom + s
@@ -94,6 +89,7 @@ keyAt n ws aim s = keyOf (aim .cost + total ws n s) (aim .goal) s
 pub record Sought (n : ℕ) (ys ns ws : List ℕ) (aim : Aim) : Type 0 where
   pub posed : Posed n ys ns (aim .on) (aim .off)
   pub goal-below : aim .goal < n
+  pub goal-row : aim .goal < maxChoices
   pub not-on : bit (aim .on) (aim .goal) ≡ 0
   pub not-off : bit (aim .off) (aim .goal) ≡ 0
   pub rows : length ws ≤ maxChoices
@@ -119,15 +115,7 @@ pub record Explored (n : ℕ) (ys ns ws : List ℕ) (aim : Aim) (part : Part) (b
 
 -- What the arguments ask.
 abbrev pub question : ℕ → List ℕ → List ℕ → ℕ → List (List ℕ) → LiteralSet → LiteralSet → Question
-question n ys ns ch table c k =
-    record {
-      problem = problem n ys ns ch;
-      table = table;
-      con-on = c .yes;
-      con-off = c .no;
-      known-on = k .yes;
-      known-off = k .no;
-    }
+question n ys ns ch table c k = asking (maskTheory n ys ns ch) table c k
 
 -- The goal over variable v + 1, and all sets of known variables.
 abbrev pub aimAt : List (List ℕ) → LiteralSet → ℕ → Bool → Aim
@@ -151,7 +139,7 @@ pub record Ready (n : ℕ) (ys ns : List ℕ) (table : List (List ℕ)) (c k : L
 pub record Picks (q : Question) (v s : ℕ) : Type 0 where
   pub goal : bit (goals q) v ≡ 1
   pub known : Within s (union (q .known-on) (q .known-off))
-  pub refuted : NoModelOf (q .problem) (againstOn q s v) (againstOff q s v)
+  pub refuted : NoModelOf (q .theory) (againstOn q s v) (againstOff q s v)
 
 -- A goal and a set, and their key.
 pub record Pair : Type 0 where
@@ -182,13 +170,13 @@ pub record Searching (n : ℕ) (ys ns : List ℕ) (table : List (List ℕ)) (c k
 -- Reasons that some filling makes true with the rules.
 pub record Reasoned (n : ℕ) (ys ns : List ℕ) (ch : ℕ) (r : LiteralSet) : Type 0 where
   pub posed : Posed n ys ns (r .yes) (r .no)
-  pub short : length ys ≤ maxRules
+  pub short : length ys ≤ mostRules
   pub choices-below : ch < 2 ^ n
   pub model : (f : ℕ) × Model n ys ns (r .yes) (r .no) f
 
 pub record Learnt (n : ℕ) (ys ns : List ℕ) (ch : ℕ) (reasons k r : LiteralSet) : Type 0 where
-  pub yes-new : r .yes ≡ diff (yesForced (problem n ys ns ch) (reasons .yes) (reasons .no)) (k .yes)
-  pub no-new : r .no ≡ diff (noForced (problem n ys ns ch) (reasons .yes) (reasons .no)) (k .no)
+  pub yes-new : r .yes ≡ diff (yesForced (maskTheory n ys ns ch) (reasons .yes) (reasons .no)) (k .yes)
+  pub no-new : r .no ≡ diff (noForced (maskTheory n ys ns ch) (reasons .yes) (reasons .no)) (k .no)
 
 -- ---- the next step
 
@@ -196,7 +184,7 @@ pub record Learnt (n : ℕ) (ys ns : List ℕ) (ch : ℕ) (reasons k r : Literal
 pub record Asked (n : ℕ) (ys ns : List ℕ) (ch : ℕ) (table : List (List ℕ)) (c k : LiteralSet) : Type 0 where
   pub posed : Posed n ys ns (c .yes) (c .no)
   pub few : n ≤ maxVariables
-  pub short : length ys ≤ maxRules
+  pub short : length ys ≤ mostRules
   pub choices-below : ch < 2 ^ n
   pub rows : ch < 2 ^ maxChoices
   pub yes-choices : Within (c .yes) ch

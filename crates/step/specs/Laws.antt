@@ -5,3 +5,4 @@ pub mod Explores
 pub mod Candidates
 pub mod Goals
 pub mod Steps
+pub mod TheStep

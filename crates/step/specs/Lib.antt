@@ -1,5 +1,5 @@
 pub mod Meaning
-pub mod Examples
+pub mod IsStep
 pub mod Cheapest
 pub mod Contracts
 pub mod Laws

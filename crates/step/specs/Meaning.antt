@@ -10,24 +10,30 @@ use lib.IntN.{pos, negsuc}
 use lib.ListN.{getD}
 use Rattle.sets.specs.Sets.{bit, has, union, inter, diff, insert, subset}
 use Rattle.literals.specs.Literal.{Literal}
-use Rattle.consequence.specs.Meaning.{Problem, contradicts, yesForced, noForced}
+use Rattle.literals.specs.declared.LiteralSet.{LiteralSet}
+use Rattle.problem.specs.Problem.{Problem, costOf}
+use Rattle.consequence.specs.Meaning.{consequenceOf, Theory, theoryOf, contradicts, yesForced, noForced}
 
 -- ---- what is asked
 
--- The problem, the costs of the literals over its choices, its consequence, and the known set K.
+-- The theory of a problem, the costs of the literals over its choices, its consequence, and the known set K.
 pub record Question : Type 0 where
-  pub problem : Problem
+  pub theory : Theory
   pub table : List (List ℕ)
   pub con-on : ℕ
   pub con-off : ℕ
   pub known-on : ℕ
   pub known-off : ℕ
 
--- ---- costs
+abbrev pub asking : Theory → List (List ℕ) → LiteralSet → LiteralSet → Question
+asking t table c known =
+    record { theory = t; table = table; con-on = c .yes; con-off = c .no; known-on = known .yes; known-off = known .no }
 
--- The cost of a literal over variable v + 1: row by variable, column by sign, 0 for yes and 1 for no.
-unfoldable pub costOf : List (List ℕ) → ℕ → ℕ → ℕ
-costOf table v column = getD (getD table v []) column 0
+-- What is asked of a problem with a known set.
+abbrev pub questionOf : Problem → LiteralSet → Question
+questionOf p known = asking (theoryOf p) (p .costs) (consequenceOf p) known
+
+-- ---- costs
 
 -- The sum of f over the numbers below n.
 unfoldable pub sumBelow : ℕ → (ℕ → ℕ) → ℕ
@@ -78,7 +84,7 @@ module _ (q : Question) where
 
   -- No filling obeys the rules and makes S and the opposite of the goal true. Only S and the rules count, not facts left out of S.
   unfoldable pub refutes : ℕ → ℕ → Bool
-  refutes v s = contradicts (q .problem) (againstOn s v) (againstOff s v)
+  refutes v s = contradicts (q .theory) (againstOn s v) (againstOff s v)
 
   -- A candidate is a set S of literals from K and one goal. (As `elim`s: what the first tests shut out is not computed.)
   unfoldable pub isCandidate : ℕ → ℕ → Bool
@@ -90,7 +96,7 @@ module _ (q : Question) where
 
   -- Its cost is the sum of the costs of the literals in S plus the cost of the opposite of the goal.
   unfoldable pub candidateCost : ℕ → ℕ → ℕ
-  candidateCost v s = setCost (q .table) (q .problem .variables) (againstOn s v) (againstOff s v)
+  candidateCost v s = setCost (q .table) (q .theory .variables) (againstOn s v) (againstOff s v)
 
 -- ---- the order
 
@@ -130,13 +136,13 @@ module _ (q : Question) where
   candidatesBelow zero = []
   candidatesBelow (suc v) =
       elim (has (goals q) v) [
-        | true ↦ candidatesFor v (2 ^ q .problem .variables) ++ candidatesBelow v
+        | true ↦ candidatesFor v (2 ^ q .theory .variables) ++ candidatesBelow v
         | false ↦ candidatesBelow v
       ]
 
   -- All candidates, and the first of them.
   unfoldable pub candidates : List Candidate
-  candidates = candidatesBelow (q .problem .variables)
+  candidates = candidatesBelow (q .theory .variables)
 
   unfoldable pub theStep : Option Candidate
   theStep = firstOf candidates
@@ -158,10 +164,10 @@ pub data Answer : Type 0 where
 module _ (q : Question) where
   -- The new literals are all literals over choices true in every filling that obeys the rules and S, less K.
   unfoldable pub newOn : ℕ → ℕ
-  newOn s = diff (yesForced (q .problem) (reasonsOn q s) (reasonsOff q s)) (q .known-on)
+  newOn s = diff (yesForced (q .theory) (reasonsOn q s) (reasonsOff q s)) (q .known-on)
 
   unfoldable pub newOff : ℕ → ℕ
-  newOff s = diff (noForced (q .problem) (reasonsOn q s) (reasonsOff q s)) (q .known-off)
+  newOff s = diff (noForced (q .theory) (reasonsOn q s) (reasonsOff q s)) (q .known-off)
 
   unfoldable pub stepFrom : Candidate → Step
   stepFrom c =

@@ -4,8 +4,9 @@ ghost use Prim.Native.Nat.{_<_, _≤_};
 ghost use Rattle.sets.specs.Sets.{Apart};
 ghost use Rattle.literals.specs.Literal.{variable};
 ghost use Rattle.book.specs.Limits.{maxChoices};
+ghost use Rattle.problem.specs.Problem.{literalCost};
 ghost use Rattle.step.specs.Meaning.{literalOf, step, stepOf};
-ghost use Rattle.step.specs.Contracts.{literalCost, weightOf, Weighed, keyOf, Small, Against, deniedBy, Exploring, Explored, Branching, question, aimAt, whole, Ready, Found, Reasoned, Learnt, Asked, Chosen, stepAt, answer};
+ghost use Rattle.step.specs.Contracts.{weightOf, Weighed, keyOf, Small, Against, deniedBy, Exploring, Explored, Branching, question, aimAt, whole, Ready, Found, Reasoned, Learnt, Asked, Chosen, stepAt, answer};
 use book::Book;
 use consequence::Consequence;
 use literals::LiteralSet;
@@ -45,10 +46,10 @@ pub struct Part {
 // The key of no candidate: above every other.
 const NONE: u64 = 18446744073709551615;
 
-// What a key has room for: sets below the one, variables below the other.
-const SETS: u64 = 4294967296;
+// What a key has room for: sets of choices below the one, variables of choices below the other.
+const SETS: u64 = 1 << Book::MAX_CHOICES;
 
-const VARIABLES: u64 = 64;
+const VARIABLES: u64 = Book::MAX_CHOICES as u64;
 
 // The literal over variable v + 1.
 fn literal(v: u32, says: bool) -> i8

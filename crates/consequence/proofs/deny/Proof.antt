@@ -9,25 +9,25 @@ use Rattle.consequence.proofs.deny.Statement.{statement}
 use Rattle.consequence.proofs.deny.Tie as tie
 use Rattle.consequence.proofs.deny.Reads as reads
 use Rattle.consequence.proofs.deny.Lts as lts
-use Rattle.consequence.proofs.extended.Reads as extended-reads
+use Rattle.consequence.proofs.with_one_more.Reads as with-one-more-reads
 use Rattle.sat.proofs.search.Reads as search-reads
 
 -- the two lists of rules with one more, as the search is handed them
-yes-more : (c : tie.After-extended2)
-    → take (length (now (c .before .before .before .before .args .yes)) + 1) (c .before .extended .result) ≡ now (c .before .before .before .before .args .yes) ++ (c .before .before .before .before .args .kept .no ∷ [])
-yes-more c = c .before .extended .ensures
+yes-more : (c : tie.After-with-one-more2)
+    → take (length (now (c .before .before .before .before .args .yes)) + 1) (c .before .with-one-more .result) ≡ now (c .before .before .before .before .args .yes) ++ (c .before .before .before .before .args .kept .no ∷ [])
+yes-more c = c .before .with-one-more .ensures
 
-no-more : (c : tie.After-extended2)
-    → take (length (now (c .before .before .before .before .args .yes)) + 1) (c .extended2 .result) ≡ now (c .before .before .before .before .args .no) ++ (c .before .before .before .before .args .kept .yes ∷ [])
-no-more c = rw (c .before .before .before .before .pre .0 .paired) (c .extended2 .ensures)
+no-more : (c : tie.After-with-one-more2)
+    → take (length (now (c .before .before .before .before .args .yes)) + 1) (c .with-one-more2 .result) ≡ now (c .before .before .before .before .args .no) ++ (c .before .before .before .before .args .kept .yes ∷ [])
+no-more c = rw (c .before .before .before .before .pre .0 .paired) (c .with-one-more2 .ensures)
 
 -- src/lib.rt:45:20
-extended-requires : tie.Need-extended-requires
-extended-requires c κs = search needs
+with-one-more-requires : tie.Need-with-one-more-requires
+with-one-more-requires c κs = search needs
 
 -- src/lib.rt:46:19
-extended-requires-2 : tie.Need-extended-requires-2
-extended-requires-2 c κs = search needs
+with-one-more-requires-2 : tie.Need-with-one-more-requires-2
+with-one-more-requires-2 c κs = search needs
 
 -- src/lib.rt:47:17
 add-rules : tie.Need-add-rules
@@ -61,8 +61,8 @@ pub deny-spec : {M : Type 1} → statement M
 deny-spec =
     tie.close
     (tie.spec
-    extended-requires
-    extended-requires-2
+    with-one-more-requires
+    with-one-more-requires-2
     add-rules
     array-share-prefix-more-yes
     slice-aggregate-search

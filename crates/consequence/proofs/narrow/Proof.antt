@@ -1,7 +1,7 @@
 use Prim.Native.Nat.{_+_}
 use borrow.Author.Needs.{needs}
 use Rattle.sets.specs.Sets.{count}
-use Rattle.consequence.specs.Contracts.{Kept}
+use Rattle.consequence.specs.Contracts.{Narrowing}
 use Rattle.consequence.proofs.NarrowLaws.{kept-first, kept-yes-below, kept-no-below, kept-less, kept-more, kept-all}
 use Rattle.consequence.proofs.narrow.Statement.{statement}
 use Rattle.consequence.proofs.narrow.Tie as tie
@@ -12,7 +12,7 @@ use Rattle.sets.proofs.difference.Reads as difference-reads
 use Rattle.sets.proofs.intersection.Reads as intersection-reads
 
 abbrev Inv-loop : tie.InvT-loop
-Inv-loop n yes' no' choices p first kept₀ kept = Kept n yes' no' choices (p .on) (p .off) kept
+Inv-loop n yes' no' choices p first kept₀ kept = Narrowing n yes' no' choices (p .on) (p .off) kept
 
 abbrev μ-loop : tie.MeasureT-loop
 μ-loop n yes' no' choices p first kept₀ kept = count (kept .yes) + count (kept .no)

@@ -1,5 +1,6 @@
 use Rattle.sat.specs.Laws.Searches.{searched-first, searched-none}
-use Rattle.consequence.specs.Laws.{none-contradicts, model-contradicts}
+use Rattle.consequence.specs.Laws.Forcing.{none-contradicts, model-contradicts}
+use Rattle.consequence.specs.Laws.Masks.{to-theory, none-to-theory}
 use borrow.Author.Needs.{needs}
 use Rattle.consequence.proofs.propagate.Statement.{statement}
 use Rattle.consequence.proofs.propagate.Tie as tie
@@ -27,11 +28,11 @@ narrow-requires c κs =
 
 -- src/lib.rt:74:1
 returns : tie.Need-returns
-returns c = record { said = none-contradicts _ _ _ (searched-none (c .before .before .search .ensures) (c .enum-told .given .1)) }
+returns c = record { said = none-contradicts _ _ _ (none-to-theory _ (searched-none (c .before .before .search .ensures) (c .enum-told .given .1))) }
 
 -- src/lib.rt:74:1
 returns-2 : tie.Need-returns-2
-returns-2 c = record { said = (model-contradicts _ _ _ _ (searched-first (c .before .before .before .before .search .ensures) (c .before .before .m .given .1) .model), c .narrow .ensures) }
+returns-2 c = record { said = (model-contradicts _ _ _ _ (to-theory _ (searched-first (c .before .before .before .before .search .ensures) (c .before .before .m .given .1) .model)), c .narrow .ensures) }
 
 pub propagate-spec : {M : Type 1} → statement M
 propagate-spec =

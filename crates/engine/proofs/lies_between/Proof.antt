@@ -1,4 +1,4 @@
-use Rattle.engine.specs.Contracts.{between}
+use Rattle.engine.specs.Calls.{between}
 use Rattle.engine.proofs.StepLaws.{flag-no, flag-yes}
 use borrow.Author.Needs.{needs}
 use Rattle.engine.proofs.lies_between.Statement.{statement}

@@ -5,9 +5,9 @@ use Rattle.book.specs.Format.{readBook}
 use Rattle.book.specs.Answer.{kept, table, tableAnswer}
 use Rattle.book.proofs.PartLaws.{BookSaid, book-says, book-refused}
 use Rattle.book.proofs.WellFormed.{WellFormed, well-formed}
-use Rattle.engine.specs.Problem.{posed-from}
-use Rattle.engine.proofs.LogLaws.{loggable, log-says}
-use Rattle.engine.proofs.CallLaws.{refused-of, short-of, logged-of}
+use Rattle.problem.specs.Masked.{maskedFrom}
+use Rattle.engine.proofs.ProblemLaws.{loggable}
+use Rattle.engine.proofs.LogLaws.{log-says, refused-of, short-of, logged-of}
 use borrow.Author.Needs.{needs}
 use Rattle.engine.proofs.log.Statement.{statement}
 use Rattle.engine.proofs.log.Tie as tie
@@ -16,7 +16,7 @@ use Rattle.engine.proofs.log.Lts as lts
 use Rattle.book.proofs.read.Reads as read-reads
 use Rattle.book.proofs.read_costs.Reads as read-costs-reads
 use Rattle.engine.proofs.log_of.Reads as log-of-reads
-use Rattle.engine.proofs.problem.pose.Reads as pose-reads
+use Rattle.problem.proofs.of_book.Reads as of-book-reads
 
 -- the book that was read, where it is accepted
 said : (c : tie.After-enum-told) → BookSaid (readBook (now (c .before .before .before .before .before .args .s))) (c .before .before .read .result)
@@ -26,8 +26,8 @@ good : (c : tie.After-enum-told) → WellFormed (said c .book)
 good c = well-formed _ (said c .said)
 
 -- the problem that is made of it, and its costs
-posed : (c : tie.After-pose) → c .pose .result ≡ posed-from (kept (said (c .before .before .before .before) .book))
-posed c = c .pose .ensures ∙ ap posed-from (said (c .before .before .before .before) .keeps)
+posed : (c : tie.After-of-book) → c .of-book .result ≡ maskedFrom (kept (said (c .before .before .before .before) .book))
+posed c = c .of-book .ensures ∙ ap maskedFrom (said (c .before .before .before .before) .keeps)
 
 priced : (c : tie.After-read-costs) → c .read-costs .result ≡ table (said (c .before .before) .book .costs)
 unfolding tableAnswer
@@ -54,8 +54,8 @@ read-costs-requires : tie.Need-read-costs-requires
 read-costs-requires c κs = search needs
 
 -- src/lib.rt:269:20
-pose-requires : tie.Need-pose-requires
-pose-requires c κs =
+of-book-requires : tie.Need-of-book-requires
+of-book-requires c κs =
     rw (said (c .before .before .before) .keeps) (omega (arith, good (c .before .before .before) .few-variables), omega (arith, good (c .before .before .before) .few-choices))
 
 -- src/lib.rt:269:13
@@ -75,7 +75,7 @@ same-length c = search needs
 returns-3 : tie.Need-returns-3
 returns-3 c =
     let w = good (c .before .before .before .before .before .before .before .before) in
-    logged-of w (said (c .before .before .before .before .before .before .before .before) .end) (said (c .before .before .before .before .before .before .before .before) .said)
+    logged-of w (said (c .before .before .before .before .before .before .before .before) .said)
     (rw (← log-says w (said (c .before .before .before .before .before .before .before .before) .end) _ (c .before .before .before .before .before .before .before .if1 .left)) (rw (posed (c .before .before .before .before), priced (c .before .before .before .before .before .before)) at (c .before .before .log-of .ensures)))
 
 pub log-spec : {M : Type 1} → statement M
@@ -87,7 +87,7 @@ log-spec =
     enum-told
     returns
     read-costs-requires
-    pose-requires
+    of-book-requires
     log-of-requires
     returns-2
     same-length

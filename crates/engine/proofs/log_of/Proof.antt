@@ -1,4 +1,4 @@
-use Rattle.engine.specs.Logs.{logIn}
+use Rattle.engine.specs.Contracts.{logIn}
 use Rattle.engine.proofs.StepLaws.{found-nine, found-set}
 use Rattle.engine.proofs.LogLaws.{logging-of, logged-refused}
 use borrow.Author.Needs.{needs}
@@ -11,7 +11,7 @@ use Rattle.engine.proofs.write_log.Reads as write-log-reads
 
 -- src/lib.rt:280:11
 propagate-requires : tie.Need-propagate-requires
-propagate-requires c κs = c .before .pre .0 .steppable .posable
+propagate-requires c κs = c .before .pre .0 .steppable .searchable
 
 -- src/lib.rt:281:38
 enum-known-number : tie.Need-enum-known-number

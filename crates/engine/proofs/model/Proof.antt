@@ -5,8 +5,9 @@ use Rattle.book.specs.Format.{readBook}
 use Rattle.book.specs.Answer.{kept}
 use Rattle.book.proofs.PartLaws.{BookSaid, book-says, book-refused}
 use Rattle.book.proofs.WellFormed.{WellFormed, well-formed}
-use Rattle.engine.specs.Problem.{posed-from}
-use Rattle.engine.proofs.BookLaws.{posable}
+use Rattle.problem.specs.Masked.{maskedFrom}
+use Rattle.engine.proofs.ProblemLaws.{searchable}
+use Rattle.engine.proofs.NineLaws.{model-call}
 use Rattle.engine.proofs.AnswerLaws.{model-says}
 use borrow.Author.Needs.{needs}
 use Rattle.engine.proofs.model.Statement.{statement}
@@ -14,7 +15,7 @@ use Rattle.engine.proofs.model.Tie as tie
 use Rattle.engine.proofs.model.Reads as reads
 use Rattle.engine.proofs.model.Lts as lts
 use Rattle.book.proofs.read.Reads as read-reads
-use Rattle.engine.proofs.problem.pose.Reads as pose-reads
+use Rattle.problem.proofs.of_book.Reads as of-book-reads
 use Rattle.engine.proofs.search_model.Reads as search-model-reads
 
 -- the book that was read, where it is accepted
@@ -25,8 +26,8 @@ good : (c : tie.After-enum-told) → WellFormed (said c .book)
 good c = well-formed _ (said c .said)
 
 -- and the problem that is made of it
-posed : (c : tie.After-pose) → c .pose .result ≡ posed-from (kept (said (c .before .before) .book))
-posed c = c .pose .ensures ∙ ap posed-from (said (c .before .before) .keeps)
+posed : (c : tie.After-of-book) → c .of-book .result ≡ maskedFrom (kept (said (c .before .before) .book))
+posed c = c .of-book .ensures ∙ ap maskedFrom (said (c .before .before) .keeps)
 
 -- src/lib.rt:48:9
 read-requires : tie.Need-read-requires
@@ -41,21 +42,21 @@ enum-told : tie.Need-enum-told
 enum-told c = search needs
 
 -- src/lib.rt:54:26
-pose-requires : tie.Need-pose-requires
-pose-requires c κs =
+of-book-requires : tie.Need-of-book-requires
+of-book-requires c κs =
     rw (said (c .before) .keeps) (omega (arith, good (c .before) .few-variables), omega (arith, good (c .before) .few-choices))
 
 -- src/lib.rt:54:13
 search-model-requires : tie.Need-search-model-requires
-search-model-requires c κs = rw (posed c) (posable (good (c .before .before)))
+search-model-requires c κs = rw (posed c) (searchable (good (c .before .before)))
 
 -- src/lib.rt:45:1
 returns : tie.Need-returns
-returns c = record { said = rw (book-refused _ (c .before .before .before .read .ensures) (c .before .outcome .given .1)) refl }
+returns c = model-call (rw (book-refused _ (c .before .before .before .read .ensures) (c .before .outcome .given .1)) refl)
 
 -- src/lib.rt:45:1
 returns-2 : tie.Need-returns-2
-returns-2 c = record { said = rw (said (c .before .before .before) .said) (model-says (good (c .before .before .before)) (said (c .before .before .before) .end) _ (rw (posed (c .before)) at (c .search-model .ensures))) }
+returns-2 c = model-call (rw (said (c .before .before .before) .said) (model-says (good (c .before .before .before)) (said (c .before .before .before) .end) _ (rw (posed (c .before)) at (c .search-model .ensures))))
 
 pub model-spec : {M : Type 1} → statement M
 model-spec =
@@ -64,7 +65,7 @@ model-spec =
     read-requires
     enum-known-outcome
     enum-told
-    pose-requires
+    of-book-requires
     search-model-requires
     returns
     returns-2)

@@ -5,10 +5,10 @@ use Rattle.book.specs.Format.{readBook}
 use Rattle.book.specs.Answer.{kept, table, tableAnswer}
 use Rattle.book.proofs.PartLaws.{BookSaid, book-says, book-refused}
 use Rattle.book.proofs.WellFormed.{WellFormed, well-formed}
-use Rattle.engine.specs.Meaning.{withModel}
-use Rattle.engine.specs.Problem.{posed-from}
-use Rattle.engine.specs.Steps.{stepAnswer}
-use Rattle.engine.proofs.StepLaws.{steppable, step-says}
+use Rattle.problem.specs.Masked.{maskedFrom}
+use Rattle.engine.specs.Calls.{withModel, stepAnswer}
+use Rattle.engine.proofs.ProblemLaws.{steppable}
+use Rattle.engine.proofs.StepLaws.{step-says, step-call}
 use borrow.Author.Needs.{needs}
 use Rattle.engine.proofs.next_step.Statement.{statement}
 use Rattle.engine.proofs.next_step.Tie as tie
@@ -16,7 +16,7 @@ use Rattle.engine.proofs.next_step.Reads as reads
 use Rattle.engine.proofs.next_step.Lts as lts
 use Rattle.book.proofs.read.Reads as read-reads
 use Rattle.book.proofs.read_costs.Reads as read-costs-reads
-use Rattle.engine.proofs.problem.pose.Reads as pose-reads
+use Rattle.problem.proofs.of_book.Reads as of-book-reads
 use Rattle.engine.proofs.step_of.Reads as step-of-reads
 
 -- the book that was read, where it is accepted
@@ -27,8 +27,8 @@ good : (c : tie.After-enum-told) → WellFormed (said c .book)
 good c = well-formed _ (said c .said)
 
 -- the problem that is made of it, and its costs
-posed : (c : tie.After-pose) → c .pose .result ≡ posed-from (kept (said (c .before .before .before) .book))
-posed c = c .pose .ensures ∙ ap posed-from (said (c .before .before .before) .keeps)
+posed : (c : tie.After-of-book) → c .of-book .result ≡ maskedFrom (kept (said (c .before .before .before) .book))
+posed c = c .of-book .ensures ∙ ap maskedFrom (said (c .before .before .before) .keeps)
 
 priced : (c : tie.After-read-costs) → c .read-costs .result ≡ table (said (c .before) .book .costs)
 unfolding tableAnswer
@@ -51,8 +51,8 @@ read-costs-requires : tie.Need-read-costs-requires
 read-costs-requires c κs = search needs
 
 -- src/lib.rt:161:21
-pose-requires : tie.Need-pose-requires
-pose-requires c κs =
+of-book-requires : tie.Need-of-book-requires
+of-book-requires c κs =
     rw (said (c .before .before) .keeps) (omega (arith, good (c .before .before) .few-variables), omega (arith, good (c .before .before) .few-choices))
 
 -- src/lib.rt:161:13
@@ -62,12 +62,12 @@ step-of-requires c κs = rw (posed c, priced (c .before .before)) (steppable (go
 -- src/lib.rt:147:1
 returns : tie.Need-returns
 unfolding stepAnswer withModel
-returns c = rw (book-refused _ (c .before .before .before .read .ensures) (c .before .outcome .given .1)) refl
+returns c = step-call (rw (book-refused _ (c .before .before .before .read .ensures) (c .before .outcome .given .1)) refl)
 
 -- src/lib.rt:147:1
 returns-2 : tie.Need-returns-2
 returns-2 c =
-    rw (said (c .before .before .before .before) .said) ((rw (posed (c .before), priced (c .before .before .before)) at (c .step-of .ensures)) ∙ step-says (good (c .before .before .before .before)) (said (c .before .before .before .before) .end) _ _)
+    step-call (rw (said (c .before .before .before .before) .said) ((rw (posed (c .before), priced (c .before .before .before)) at (c .step-of .ensures)) ∙ step-says (good (c .before .before .before .before)) (said (c .before .before .before .before) .end) _ _))
 
 pub next-step-spec : {M : Type 1} → statement M
 next-step-spec =
@@ -77,7 +77,7 @@ next-step-spec =
     enum-known-outcome
     enum-told
     read-costs-requires
-    pose-requires
+    of-book-requires
     step-of-requires
     returns
     returns-2)

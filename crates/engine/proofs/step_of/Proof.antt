@@ -1,7 +1,7 @@
 use mathlib.Core.Path.{_≡_, refl, sym, ap, _∙_}
 use mathlib.Core.Bool.{true, false}
 use Rattle.consequence.specs.Meaning.{contradicts}
-use Rattle.engine.specs.Contracts.{problemIn, forcedIn, stepIn}
+use Rattle.engine.specs.Contracts.{theoryIn, forcedIn, stepIn}
 use Rattle.engine.proofs.StepLaws.{found-nine, found-set, stepping, flag-no, flag-yes}
 use borrow.Author.Needs.{needs}
 use Rattle.engine.proofs.step_of.Statement.{statement}
@@ -13,12 +13,12 @@ use Rattle.engine.proofs.propagate.Reads as propagate-reads
 use Rattle.engine.proofs.take_step.Reads as take-step-reads
 
 -- what the given facts force, and where the known set lies
-found : (c : tie.After-known-told2) → (contradicts (problemIn (c .before .before .before .before .args .p)) (c .before .before .before .before .args .p .facts .yes) (c .before .before .before .before .args .p .facts .no) ≡ false) × (c .before .forced .given .0 .0 ≡ forcedIn (c .before .before .before .before .args .p))
+found : (c : tie.After-known-told2) → (contradicts (theoryIn (c .before .before .before .before .args .p)) (c .before .before .before .before .args .p .facts .yes) (c .before .before .before .before .args .p .facts .no) ≡ false) × (c .before .forced .given .0 .0 ≡ forcedIn (c .before .before .before .before .args .p))
 found c = found-set _ (c .before .before .before .propagate .ensures) (c .before .forced .given .1)
 
 -- src/lib.rt:187:11
 propagate-requires : tie.Need-propagate-requires
-propagate-requires c κs = c .pre .posable
+propagate-requires c κs = c .pre .searchable
 
 -- src/lib.rt:188:38
 enum-known-number : tie.Need-enum-known-number

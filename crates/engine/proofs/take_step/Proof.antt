@@ -17,7 +17,7 @@ array-share-prefix-yes c = search needs
 
 -- src/lib.rt:209:40
 slice-aggregate-next-step : tie.Need-slice-aggregate-next-step
-slice-aggregate-next-step c = sym (length-take-le _ _ (omega (arith, c .before .before .before .pre .posable .few-rules, c .before .before .before .pre .posable .yes-room)))
+slice-aggregate-next-step c = sym (length-take-le _ _ (omega (arith, c .before .before .before .pre .searchable .few-rules, c .before .before .before .pre .searchable .yes-room)))
 
 -- src/lib.rt:209:55
 array-share-prefix-no : tie.Need-array-share-prefix-no
@@ -25,7 +25,7 @@ array-share-prefix-no c = search needs
 
 -- src/lib.rt:209:55
 slice-aggregate-next-step-2 : tie.Need-slice-aggregate-next-step-2
-slice-aggregate-next-step-2 c = sym (length-take-le _ _ (omega (arith, c .before .before .before .before .pre .posable .few-rules, c .before .before .before .before .pre .posable .no-room)))
+slice-aggregate-next-step-2 c = sym (length-take-le _ _ (omega (arith, c .before .before .before .before .pre .searchable .few-rules, c .before .before .before .before .pre .searchable .no-room)))
 
 -- src/lib.rt:209:11
 next-step-requires : tie.Need-next-step-requires

@@ -15,7 +15,7 @@ array-share-prefix-yes c = search needs
 
 -- src/lib.rt:302:9
 slice-aggregate-write : tie.Need-slice-aggregate-write
-slice-aggregate-write c = sym (length-take-le _ _ (omega (arith, c .before .before .before .before .pre .0 .posable .few-rules, c .before .before .before .before .pre .0 .posable .yes-room)))
+slice-aggregate-write c = sym (length-take-le _ _ (omega (arith, c .before .before .before .before .pre .0 .searchable .few-rules, c .before .before .before .before .pre .0 .searchable .yes-room)))
 
 -- src/lib.rt:303:9
 array-share-prefix-no : tie.Need-array-share-prefix-no
@@ -23,7 +23,7 @@ array-share-prefix-no c = search needs
 
 -- src/lib.rt:303:9
 slice-aggregate-write-2 : tie.Need-slice-aggregate-write-2
-slice-aggregate-write-2 c = sym (length-take-le _ _ (omega (arith, c .before .before .before .before .before .pre .0 .posable .few-rules, c .before .before .before .before .before .pre .0 .posable .no-room)))
+slice-aggregate-write-2 c = sym (length-take-le _ _ (omega (arith, c .before .before .before .before .before .pre .0 .searchable .few-rules, c .before .before .before .before .before .pre .0 .searchable .no-room)))
 
 -- src/lib.rt:300:11
 write-requires : tie.Need-write-requires

@@ -7,8 +7,7 @@ use mir.Val.{toZ, ofZ}
 use mir.Facts.{toZ-ofZ}
 use Rattle.literals.specs.declared.LiteralSet.{LiteralSet}
 use Rattle.step.specs.declared.Next.the-variants as Next
-use Rattle.log.specs.Meaning.{stepBytes}
-use Rattle.log.specs.Contracts.{Put}
+use Rattle.log.specs.Contracts.{Put, stepBytes}
 use mathlib.Core.Path.{_≡_, sym, _∙_}
 use Prim.Native.Nat.{_+_, _*_}
 use native.Mathlib.Omega.{arith}
@@ -17,7 +16,7 @@ use denote.Ref.{now}
 use Rattle.sets.specs.Sets.{count}
 use Rattle.step.specs.Meaning.{goals, stepOf, step}
 use Rattle.step.specs.Contracts.{question}
-use Rattle.log.specs.Contracts.{Logs, putStep}
+use Rattle.log.specs.Contracts.{LogAsked, putStep}
 use Rattle.log.proofs.RunLaws.{Logging, logging-none, logging-room, logging-more, logging-ended, end-room, bytes-room, step-open, goals-fewer, answered-step}
 use Rattle.log.proofs.build.Statement.{statement}
 use Rattle.log.proofs.build.Tie as tie
@@ -30,7 +29,7 @@ use Rattle.step.proofs.next_step.Reads as next-step-reads
 
 abbrev Inv-loop : tie.InvT-loop
 Inv-loop n yes' no' choices costs consequence bytes₀ at₀ known₀ steps₀ total₀ bytes at known steps total =
-    (lg : Logs n yes' no' choices costs consequence known₀) × Logging lg bytes at known steps total
+    (lg : LogAsked n yes' no' choices costs consequence known₀) × Logging lg bytes at known steps total
 
 abbrev μ-loop : tie.MeasureT-loop
 μ-loop n yes' no' choices costs consequence bytes₀ at₀ known₀ steps₀ total₀ bytes at known steps total =

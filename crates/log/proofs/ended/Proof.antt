@@ -1,5 +1,4 @@
 use Rattle.log.proofs.EndLaws.{ended-ok, ended-none, ended-step}
-use Rattle.log.proofs.RecordLaws.{ok-length}
 use borrow.Author.Needs.{needs}
 use Rattle.log.proofs.ended.Statement.{statement}
 use Rattle.log.proofs.ended.Tie as tie
@@ -18,7 +17,7 @@ slice-aggregate-put-ok c = search needs
 
 -- src/lib.rt:138:17
 put-ok-requires : tie.Need-put-ok-requires
-put-ok-requires c κs = rw (ok-length (c .before .before .before .args .steps) (c .before .before .before .args .total)) (c .before .before .before .pre)
+put-ok-requires c κs = c .before .before .before .pre
 
 -- src/lib.rt:147:38
 enum-told-2 : tie.Need-enum-told-2

@@ -1,6 +1,6 @@
 use native.Mathlib.Omega.{arith}
 use lib.ListN.{length-set}
-use Rattle.log.specs.Meaning.{fourBytes}
+use Rattle.log.specs.Format.{fourBytes}
 use Rattle.log.proofs.StoreLaws.{put-four}
 use borrow.Author.Needs.{needs}
 use Rattle.log.proofs.put_four.Statement.{statement}

@@ -1,7 +1,7 @@
 use native.Mathlib.Omega.{arith}
 use lib.ListN.{length-set}
 use denote.Ref.{now}
-use Rattle.log.specs.Meaning.{OK}
+use Rattle.log.specs.Format.{OK}
 use Rattle.log.specs.Contracts.{Put}
 use Rattle.log.proofs.RecordLaws.{ok-length, ok-put}
 use Rattle.log.proofs.StoreLaws.{put-length}

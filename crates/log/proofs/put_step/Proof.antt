@@ -4,7 +4,8 @@ use Prim.Native.Nat.{_+_}
 use lib.ListN.{set}
 use denote.Ref.{now}
 use mir.Facts.{toZ-ofZ}
-use Rattle.log.specs.Meaning.{ST, listBytes}
+use Rattle.log.specs.Format.{ST, listBytes}
+use Rattle.log.specs.Meaning.{literalsOf}
 use Rattle.log.specs.Contracts.{Put, putStep}
 use Rattle.log.proofs.RecordLaws.{upToGoal, upToReasons, upToNew, step-length, goal-room, goal-put, reasons-room, new-room, cost-room, step-put}
 use Rattle.log.proofs.StoreLaws.{put-append, put-length}
@@ -26,10 +27,10 @@ aimed : (c : tie.After-to-byte)
 aimed c = goal-put _ _ (putStep (c .before .before .before .before .before .before .args .goal) (c .before .before .before .before .before .before .args .reasons) (c .before .before .before .before .before .before .args .new) (c .before .before .before .before .before .before .args .cost)) (c .before .before .before .before .before .before .pre) (marked (c .before .before .before)) (rw (toZ-ofZ (c .before .before .before .before .before .before .fits .goal)) at (c .to-byte .ensures))
 
 reasoned : (c : tie.After-put-list) → Put (now (c .before .before .before .before .before .before .before .before .args .out)) (c .before .before .before .before .before .before .before .before .args .at) (upToReasons (putStep (c .before .before .before .before .before .before .before .before .args .goal) (c .before .before .before .before .before .before .before .before .args .reasons) (c .before .before .before .before .before .before .before .before .args .new) (c .before .before .before .before .before .before .before .before .args .cost))) (c .put-list .last .0) (c .put-list .result)
-reasoned c = put-append (upToGoal (putStep (c .before .before .before .before .before .before .before .before .args .goal) (c .before .before .before .before .before .before .before .before .args .reasons) (c .before .before .before .before .before .before .before .before .args .new) (c .before .before .before .before .before .before .before .before .args .cost))) (listBytes (c .before .before .before .before .before .before .before .before .args .reasons .yes) (c .before .before .before .before .before .before .before .before .args .reasons .no)) (aimed (c .before .before)) (c .put-list .ensures)
+reasoned c = put-append (upToGoal (putStep (c .before .before .before .before .before .before .before .before .args .goal) (c .before .before .before .before .before .before .before .before .args .reasons) (c .before .before .before .before .before .before .before .before .args .new) (c .before .before .before .before .before .before .before .before .args .cost))) (listBytes (literalsOf (c .before .before .before .before .before .before .before .before .args .reasons .yes) (c .before .before .before .before .before .before .before .before .args .reasons .no))) (aimed (c .before .before)) (c .put-list .ensures)
 
 renewed : (c : tie.After-put-list2) → Put (now (c .before .before .before .before .before .before .before .before .before .before .before .before .args .out)) (c .before .before .before .before .before .before .before .before .before .before .before .before .args .at) (upToNew (putStep (c .before .before .before .before .before .before .before .before .before .before .before .before .args .goal) (c .before .before .before .before .before .before .before .before .before .before .before .before .args .reasons) (c .before .before .before .before .before .before .before .before .before .before .before .before .args .new) (c .before .before .before .before .before .before .before .before .before .before .before .before .args .cost))) (c .put-list2 .last .0) (c .put-list2 .result)
-renewed c = put-append (upToReasons (putStep (c .before .before .before .before .before .before .before .before .before .before .before .before .args .goal) (c .before .before .before .before .before .before .before .before .before .before .before .before .args .reasons) (c .before .before .before .before .before .before .before .before .before .before .before .before .args .new) (c .before .before .before .before .before .before .before .before .before .before .before .before .args .cost))) (listBytes (c .before .before .before .before .before .before .before .before .before .before .before .before .args .new .yes) (c .before .before .before .before .before .before .before .before .before .before .before .before .args .new .no)) (reasoned (c .before .before .before .before)) (c .put-list2 .ensures)
+renewed c = put-append (upToReasons (putStep (c .before .before .before .before .before .before .before .before .before .before .before .before .args .goal) (c .before .before .before .before .before .before .before .before .before .before .before .before .args .reasons) (c .before .before .before .before .before .before .before .before .before .before .before .before .args .new) (c .before .before .before .before .before .before .before .before .before .before .before .before .args .cost))) (listBytes (literalsOf (c .before .before .before .before .before .before .before .before .before .before .before .before .args .new .yes) (c .before .before .before .before .before .before .before .before .before .before .before .before .args .new .no))) (reasoned (c .before .before .before .before)) (c .put-list2 .ensures)
 
 -- src/lib.rt:77:35
 array-read-put-two : tie.Need-array-read-put-two

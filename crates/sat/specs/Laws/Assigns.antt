@@ -40,7 +40,7 @@ insert-within m v f w =
           (λ s. omega (arith, bit-insert-other m v u s, w .keeps u));
     }
 
-apart-insert : (m v f : ℕ) → Apart m f → bit f v ≡ 0 → Apart (insert m v) f
+pub apart-insert : (m v f : ℕ) → Apart m f → bit f v ≡ 0 → Apart (insert m v) f
 apart-insert m v f a e =
     record {
       avoids = λ u.

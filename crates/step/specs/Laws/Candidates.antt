@@ -10,10 +10,11 @@ use native.Mathlib.Omega.{arith}
 use Rattle.sets.specs.Sets.{has, union, subset}
 use Rattle.sets.specs.Laws.Bits.{member-lt}
 use Rattle.sets.specs.Laws.Subset.{has-true, one-has, subset-within, within-subset, within-le}
-use Rattle.consequence.specs.Laws.{contradicts-none, none-contradicts}
+use Rattle.consequence.specs.Laws.Forcing.{contradicts-none, none-contradicts}
 use Rattle.step.specs.Meaning.{Question, goals, againstOn, againstOff, refutes, isCandidate, Candidate, firstOf, candidate, candidatesFor, candidatesBelow, candidates, theStep}
+use Rattle.step.specs.IsStep.{Upto}
 use Rattle.step.specs.Contracts.{Picks}
-use Rattle.step.specs.Laws.Order.{Upto, FirstIn, first-in}
+use Rattle.step.specs.Laws.Order.{FirstIn, first-in}
 
 module _ (q : Question) where
   -- ---- the test
@@ -28,7 +29,7 @@ module _ (q : Question) where
           record {
             goal = has-true (goals q) v p;
             known = subset-within s (union (q .known-on) (q .known-off)) r;
-            refuted = contradicts-none (q .problem) (againstOn q s v) (againstOff q s v) e;
+            refuted = contradicts-none (q .theory) (againstOn q s v) (againstOff q s v) e;
           }
       go true false p r e = absurd (false≢true e)
       go false b p r e = absurd (false≢true e)
@@ -37,7 +38,7 @@ module _ (q : Question) where
   unfolding isCandidate refutes
   picks-candidate v s x =
       rw (one-has (goals q) v (x .goal), within-subset s (union (q .known-on) (q .known-off)) (x .known), isCandidate)
-      (none-contradicts (q .problem) (againstOn q s v) (againstOff q s v) (x .refuted))
+      (none-contradicts (q .theory) (againstOn q s v) (againstOff q s v) (x .refuted))
 
   -- ---- the list
 
@@ -71,19 +72,19 @@ module _ (q : Question) where
   below-sound (suc v) c m = go (has (goals q) v) (below-sound v c) m
     where
       split : (List·Memᴰ c (candidatesBelow q v) → Listed c)
-          → List·Memᴰ c (candidatesFor q v (2 ^ q .problem .variables)) ⊎ List·Memᴰ c (candidatesBelow q v) → Listed c
-      split ih (inl n) = for-sound v (2 ^ q .problem .variables) c n
+          → List·Memᴰ c (candidatesFor q v (2 ^ q .theory .variables)) ⊎ List·Memᴰ c (candidatesBelow q v) → Listed c
+      split ih (inl n) = for-sound v (2 ^ q .theory .variables) c n
       split ih (inr n) = ih n
 
       go : (b : Bool) → (List·Memᴰ c (candidatesBelow q v) → Listed c)
-          → List·Memᴰ c (elim b [ true ↦ candidatesFor q v (2 ^ q .problem .variables) ++ candidatesBelow q v | false ↦ candidatesBelow q v ])
+          → List·Memᴰ c (elim b [ true ↦ candidatesFor q v (2 ^ q .theory .variables) ++ candidatesBelow q v | false ↦ candidatesBelow q v ])
           → Listed c
-      go true ih n = split ih (List·Memᴰ·append-cases (candidatesFor q v (2 ^ q .problem .variables)) n)
+      go true ih n = split ih (List·Memᴰ·append-cases (candidatesFor q v (2 ^ q .theory .variables)) n)
       go false ih n = ih n
 
   pub candidates-sound : (c : Candidate) → List·Memᴰ c (candidates q) → Listed c
   unfolding candidates
-  candidates-sound c m = below-sound (q .problem .variables) c m
+  candidates-sound c m = below-sound (q .theory .variables) c m
 
   for-complete : (v k s : ℕ) → s < k → isCandidate q v s ≡ true → List·Memᴰ (candidate q v s) (candidatesFor q v k)
   unfolding candidatesFor
@@ -97,38 +98,38 @@ module _ (q : Question) where
       go false d (yes p) ih = absurd (false≢true (sym d ∙ ap (isCandidate q v) (sym p) ∙ e))
       go false d (no p) ih = ih (omega arith) e
 
-  below-complete : (k v s : ℕ) → v < k → s < 2 ^ q .problem .variables → has (goals q) v ≡ true → isCandidate q v s ≡ true
+  below-complete : (k v s : ℕ) → v < k → s < 2 ^ q .theory .variables → has (goals q) v ≡ true → isCandidate q v s ≡ true
       → List·Memᴰ (candidate q v s) (candidatesBelow q k)
   unfolding candidatesBelow
   below-complete zero v s h l g e = absurd (omega arith)
   below-complete (suc k) v s h l g e = go (has (goals q) k) refl (ℕ-discrete v k) (λ j. below-complete k v s j l g e)
     where
       all : List Candidate
-      all = candidatesFor q k (2 ^ q .problem .variables)
+      all = candidatesFor q k (2 ^ q .theory .variables)
 
       go : (b : Bool) → has (goals q) k ≡ b → Dec (v ≡ k) → (v < k → List·Memᴰ (candidate q v s) (candidatesBelow q k))
           → List·Memᴰ (candidate q v s) (elim b [ true ↦ all ++ candidatesBelow q k | false ↦ candidatesBelow q k ])
       go true d (yes p) ih =
-          Memᴰ·append-left (candidatesBelow q k) (subst (λ (x : ℕ). List·Memᴰ (candidate q v s) (candidatesFor q x (2 ^ q .problem .variables))) p (for-complete v _ s l e))
+          Memᴰ·append-left (candidatesBelow q k) (subst (λ (x : ℕ). List·Memᴰ (candidate q v s) (candidatesFor q x (2 ^ q .theory .variables))) p (for-complete v _ s l e))
       go true d (no p) ih = Memᴰ·append-right all (ih (omega arith))
       go false d (yes p) ih = absurd (false≢true (sym d ∙ ap (has (goals q)) (sym p) ∙ g))
       go false d (no p) ih = ih (omega arith)
 
-  pub candidates-complete : (v s : ℕ) → v < q .problem .variables → s < 2 ^ q .problem .variables → Picks q v s → List·Memᴰ (candidate q v s) (candidates q)
+  pub candidates-complete : (v s : ℕ) → v < q .theory .variables → s < 2 ^ q .theory .variables → Picks q v s → List·Memᴰ (candidate q v s) (candidates q)
   unfolding candidates
-  candidates-complete v s h l x = below-complete (q .problem .variables) v s h l (one-has (goals q) v (x .goal)) (picks-candidate v s x)
+  candidates-complete v s h l x = below-complete (q .theory .variables) v s h l (one-has (goals q) v (x .goal)) (picks-candidate v s x)
 
   -- ---- the first
 
   -- The goals and the known variables are variables of the problem.
   pub record Sized : Type 0 where
-    pub goals-below : goals q < 2 ^ q .problem .variables
-    pub known-below : union (q .known-on) (q .known-off) < 2 ^ q .problem .variables
+    pub goals-below : goals q < 2 ^ q .theory .variables
+    pub known-below : union (q .known-on) (q .known-off) < 2 ^ q .theory .variables
 
-  pub picks-goal : (v s : ℕ) → Sized → Picks q v s → v < q .problem .variables
-  picks-goal v s z x = member-lt (q .problem .variables) (goals q) v (x .goal) (z .goals-below)
+  pub picks-goal : (v s : ℕ) → Sized → Picks q v s → v < q .theory .variables
+  picks-goal v s z x = member-lt (q .theory .variables) (goals q) v (x .goal) (z .goals-below)
 
-  pub picks-set : (v s : ℕ) → Sized → Picks q v s → s < 2 ^ q .problem .variables
+  pub picks-set : (v s : ℕ) → Sized → Picks q v s → s < 2 ^ q .theory .variables
   picks-set v s z x = omega (arith, within-le s (union (q .known-on) (q .known-off)) (x .known), z .known-below)
 
   -- c is a candidate, and none comes before it.

@@ -13,8 +13,9 @@ use Rattle.sets.specs.Sets.{bit, has, inter, insert, Within, Apart}
 use Rattle.sets.specs.Laws.Bits.{bit-le, bit-zero, bit-inter, bit-insert-same, bit-insert-other}
 use Rattle.sets.specs.Laws.Subset.{has-true, has-false}
 use Rattle.book.specs.Limits.{maxChoices}
-use Rattle.step.specs.Meaning.{costOf, sumBelow, setCost, literalOf}
-use Rattle.step.specs.Contracts.{literalCost, weightOf, Weighed, total}
+use Rattle.problem.specs.Problem.{costOf, literalCost}
+use Rattle.step.specs.Meaning.{sumBelow, setCost, literalOf}
+use Rattle.step.specs.Contracts.{weightOf, Weighed, total}
 
 -- ---- sums
 

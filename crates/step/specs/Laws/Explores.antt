@@ -147,7 +147,7 @@ module _ {n : ℕ} {ys ns ws : List ℕ} {aim : Aim} {part : Part} where
   here-key x e = omega (arith, x .priced)
 
   pub explore-goal : Exploring n ys ns ws aim part → aim .goal < 64
-  explore-goal x = explore-small x .goal-small
+  explore-goal x = omega (arith, x .sought .goal-row)
 
   -- ---- `explore`
 

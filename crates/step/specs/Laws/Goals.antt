@@ -13,9 +13,11 @@ use Rattle.sets.specs.Laws.Subset.{has-true, has-false, one-has, zero-has, with
 use Rattle.literals.specs.declared.LiteralSet.{LiteralSet}
 use Rattle.sat.specs.Contracts.{Posed}
 use Rattle.book.specs.Limits.{maxChoices, maxCost}
-use Rattle.step.specs.Meaning.{Question, costOf, setCost, literalOf, yesGoals, noGoals, goals, reasonsOn, reasonsOff, againstOn, againstOff, candidateCost}
+use Rattle.consequence.specs.Laws.Masks.{to-theory, none-to-theory, none-of-theory}
+use Rattle.problem.specs.Problem.{costOf, literalCost}
+use Rattle.step.specs.Meaning.{Question, setCost, literalOf, yesGoals, noGoals, goals, reasonsOn, reasonsOff, againstOn, againstOff, candidateCost}
 use Rattle.step.specs.Cheapest.{Least, Between, least-none, least-both, least-same, remove-within, remove-less}
-use Rattle.step.specs.Contracts.{literalCost, weightOf, Weighed, total, keyOf, Small, aimOn, aimOff, Refutes, keyAt, Sought, Exploring, Explored, question, aimAt, whole, Ready, Picks, Pair, pairKey, noKey, Found, Trying, Searching}
+use Rattle.step.specs.Contracts.{weightOf, Weighed, total, keyOf, Small, aimOn, aimOff, Refutes, keyAt, Sought, Exploring, Explored, question, aimAt, whole, Ready, Picks, Pair, pairKey, noKey, Found, Trying, Searching}
 use Rattle.step.specs.Laws.Explores.{aim-posed}
 use Rattle.step.specs.declared.Aim.{Aim}
 use Rattle.step.specs.declared.Part.{Part}
@@ -145,6 +147,7 @@ module _ {n : ℕ} {ys ns : List ℕ} {table : List (List ℕ)} {c k : LiteralSe
         record {
           posed = known-posed;
           goal-below = o .below;
+          goal-row = o .row;
           not-on = o .not-on;
           not-off = o .not-off;
           rows = omega (arith, w .rows);
@@ -224,7 +227,7 @@ module _ {n : ℕ} {ys ns : List ℕ} {table : List (List ℕ)} {c k : LiteralSe
         record {
           above = record { keeps = λ u. omega (arith, bit-zero u) };
           below = m .picks .known;
-          holds = rw (aim-on x ch v o (t .set), aim-off x ch v o (t .set)) (m .picks .refuted);
+          holds = rw (aim-on x ch v o (t .set), aim-off x ch v o (t .set)) (none-of-theory ch (m .picks .refuted));
         },
         same-key (t .set) ∙ ap (λ (g : ℕ). keyOf (candidateCost q g (t .set)) g (t .set)) (sym (m .same)),
       )
@@ -237,7 +240,7 @@ module _ {n : ℕ} {ys ns : List ℕ} {table : List (List ℕ)} {c k : LiteralSe
           picks = record {
             goal = o .isGoal;
             known = b .below;
-            refuted = rw (← aim-on x ch v o s, ← aim-off x ch v o s) (b .holds);
+            refuted = rw (← aim-on x ch v o s, ← aim-off x ch v o s) (none-to-theory ch (b .holds));
           };
         },
         sym (same-key s),

@@ -10,13 +10,10 @@ use native.Mathlib.Omega.{arith}
 use lib.Dec.{ltb, eqb}
 use borrow.Author.Tests.{ltb-true, ltb-false, eqb-true, eqb-false, lt-ltb, le-ltb}
 use Rattle.step.specs.Meaning.{Candidate, before, earlier, firstOf}
+use Rattle.step.specs.IsStep.{Lex, Upto}
 use Rattle.step.specs.Contracts.{setRoom, goalRoom, noKey, keyOf, Small}
 
 -- ---- the order as facts
-
--- Less, or equal and then X.
-abbrev pub Lex : ℕ → ℕ → Type 0 → Type 0
-Lex a b X = (a < b) ⊎ ((a ≡ b) × X)
 
 lex-trans : {a b c : ℕ} {X Y Z : Type 0} → (X → Y → Z) → Lex a b X → Lex b c Y → Lex a c Z
 lex-trans f (inl h) (inl k) = inl (omega arith)
@@ -45,10 +42,6 @@ before-false a b t {X} f e = go (ltb a b) (eqb a b) t refl refl f e
 -- c comes before d.
 abbrev pub Before : Candidate → Candidate → Type 0
 Before c d = Lex (c .cost) (d .cost) (Lex (c .goal) (d .goal) (c .reasons < d .reasons))
-
--- c comes before d, or is d.
-abbrev pub Upto : Candidate → Candidate → Type 0
-Upto c d = Lex (c .cost) (d .cost) (Lex (c .goal) (d .goal) (c .reasons ≤ d .reasons))
 
 pub earlier-true : (c d : Candidate) → earlier c d ≡ true → Before c d
 unfolding earlier

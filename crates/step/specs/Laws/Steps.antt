@@ -13,8 +13,9 @@ use Rattle.sets.specs.Laws.Subset.{within-trans, within-le}
 use Rattle.literals.specs.Literal.{Literal}
 use Rattle.literals.specs.declared.LiteralSet.{LiteralSet}
 use Rattle.consequence.specs.Meaning.{contradicts, yesForced, noForced}
-use Rattle.consequence.specs.Contracts.{problem, Concluded}
-use Rattle.consequence.specs.Laws.{model-contradicts}
+use Rattle.consequence.specs.Contracts.{maskTheory, Concluded}
+use Rattle.consequence.specs.Laws.Forcing.{model-contradicts}
+use Rattle.consequence.specs.Laws.Masks.{to-theory}
 use Rattle.consequence.specs.declared.Consequence.{Consequence}
 use Rattle.consequence.specs.declared.Consequence.the-variants.{NoModel as Contradiction, Forced}
 use Rattle.step.specs.Meaning.{Question, literalOf, yesGoals, noGoals, goals, goalLiteral, reasonsOn, reasonsOff, candidateCost, Candidate, candidate, theStep, nothingLeft, step, newOn, newOff, stepFrom, answerFrom, stepOf}
@@ -131,8 +132,8 @@ module _ {n : ℕ} {ys ns : List ℕ} {ch : ℕ} {reasons k : LiteralSet} {o : C
   pub learn-absurd : {r : LiteralSet} → Reasoned n ys ns ch reasons → Concluded n ys ns ch (reasons .yes) (reasons .no) o → o ≡ Contradiction
       → Learnt n ys ns ch reasons k r
   learn-absurd x s e =
-      let no-model : contradicts (problem n ys ns ch) (reasons .yes) (reasons .no) ≡ true = subst (Concluded n ys ns ch (reasons .yes) (reasons .no)) e s .said in
-      absurd (true≢false (sym no-model ∙ model-contradicts (problem n ys ns ch) (reasons .yes) (reasons .no) (x .model .0) (x .model .1)))
+      let no-model : contradicts (maskTheory n ys ns ch) (reasons .yes) (reasons .no) ≡ true = subst (Concluded n ys ns ch (reasons .yes) (reasons .no)) e s .said in
+      absurd (true≢false (sym no-model ∙ model-contradicts (maskTheory n ys ns ch) (reasons .yes) (reasons .no) (x .model .0) (to-theory ch (x .model .1))))
 
   pub learnt : {forced : LiteralSet} {a b : ℕ} → Concluded n ys ns ch (reasons .yes) (reasons .no) o → o ≡ Forced forced → a ≡ diff (forced .yes) (k .yes)
       → b ≡ diff (forced .no) (k .no) → Learnt n ys ns ch reasons k (record { yes = a; no = b })
@@ -247,11 +248,11 @@ module _ {n : ℕ} {ys ns : List ℕ} {ch best : ℕ} {k : LiteralSet} (x : Chos
       goal-is : l ≡ literalOf (best / setRoom % goalRoom) (has (diff (c .yes) (k .yes)) (best / setRoom % goalRoom))
       goal-is = e ∙ ap (literalOf (best / setRoom % goalRoom)) (q ∙ ap (λ (m : ℕ). has m (best / setRoom % goalRoom)) p)
 
-      yes-is : new .yes ≡ diff (yesForced (problem n ys ns ch) (inter (best % setRoom) (k .yes)) (inter (best % setRoom) (k .no))) (k .yes)
-      yes-is = w .yes-new ∙ ap₂ (λ (u : ℕ) (v : ℕ). diff (yesForced (problem n ys ns ch) u v) (k .yes)) s t
+      yes-is : new .yes ≡ diff (yesForced (maskTheory n ys ns ch) (inter (best % setRoom) (k .yes)) (inter (best % setRoom) (k .no))) (k .yes)
+      yes-is = w .yes-new ∙ ap₂ (λ (u : ℕ) (v : ℕ). diff (yesForced (maskTheory n ys ns ch) u v) (k .yes)) s t
 
-      no-is : new .no ≡ diff (noForced (problem n ys ns ch) (inter (best % setRoom) (k .yes)) (inter (best % setRoom) (k .no))) (k .no)
-      no-is = w .no-new ∙ ap₂ (λ (u : ℕ) (v : ℕ). diff (noForced (problem n ys ns ch) u v) (k .no)) s t
+      no-is : new .no ≡ diff (noForced (maskTheory n ys ns ch) (inter (best % setRoom) (k .yes)) (inter (best % setRoom) (k .no))) (k .no)
+      no-is = w .no-new ∙ ap₂ (λ (u : ℕ) (v : ℕ). diff (noForced (maskTheory n ys ns ch) u v) (k .no)) s t
 
 pub ruleset learn-laws = (learn-absurd, learnt)
 

@@ -3,10 +3,10 @@ use native.Mathlib.Omega.{arith}
 use borrow.Author.Needs.{needs}
 use lib.ListN.{length}
 use Rattle.consequence.proofs.CopyLaws.{Copied, copied-none, copied-more, copied-all}
-use Rattle.consequence.proofs.extended.Statement.{statement}
-use Rattle.consequence.proofs.extended.Tie as tie
-use Rattle.consequence.proofs.extended.Reads as reads
-use Rattle.consequence.proofs.extended.Lts as lts
+use Rattle.consequence.proofs.with_one_more.Statement.{statement}
+use Rattle.consequence.proofs.with_one_more.Tie as tie
+use Rattle.consequence.proofs.with_one_more.Reads as reads
+use Rattle.consequence.proofs.with_one_more.Lts as lts
 
 abbrev Inv-loop : tie.InvT-loop
 Inv-loop masks last all₀ i₀ all i = Copied masks all i
@@ -58,8 +58,8 @@ array-write-all-2 c = search needs
 returns : tie.Need-returns Inv-loop μ-loop
 returns c = copied-all _ _ (c .before .before .pre) (c .before .loop .inv) (c .loop-test .left)
 
-pub extended-spec : {M : Type 1} → statement M
-extended-spec =
+pub with-one-more-spec : {M : Type 1} → statement M
+with-one-more-spec =
     tie.close
     (tie.spec
     Inv-loop

@@ -2,28 +2,29 @@
 -- Assumes nothing.
 use mathlib.Core.Path.{_≡_, refl, sym, ap, ap₂, subst, _∙_}
 use mathlib.Core.Logic.{_≢_, _⊎_, inl, inr, by-cases}
-use mathlib.Core.Bool.{Bool, true, false, not, _&&_, false≢true}
-use mathlib.Core.List.{List, [], _∷_, map, List·Memᴰ, List·Memᴰ·head, List·Memᴰ·tail, List·Memᴰ·not-nil, List·Memᴰ·cases-cons, Memᴰ·cast, Memᴰ·map, Memᴰ·of-map}
+use mathlib.Core.Bool.{Bool, true, false, not, _&&_, false≢true, true≢false}
+use mathlib.Core.List.{List, [], _∷_, _++_, map, List·Memᴰ, List·Memᴰ·head, List·Memᴰ·tail, List·Memᴰ·not-nil, List·Memᴰ·cases-cons, List·Memᴰ·append-cases, Memᴰ·append-left, Memᴰ·append-right, Memᴰ·cast, Memᴰ·map, Memᴰ·of-map}
 use Prim.Native.Nat.{ℕ, zero, suc, _+_, _-_, _*_, _^_, _≤_, _<_, max}
 use native.Mathlib.Nat.{add-mul, mul-le-mul-right}
 use native.Mathlib.Decide.{ℕ-discrete}
 use native.Mathlib.Omega.{arith}
-use borrow.Author.Tests.{lt-ltb, le-leb}
+use borrow.Author.Tests.{lt-ltb}
 use lib.IntN.{pos, negsuc, negℤ}
-use lib.ListN.{length, getD, length-map, List·getD-append}
+use lib.ListN.{length, length-map}
 use Rattle.sets.specs.Sets.{bit, has, single, union, insert, count, members, RisingFrom, Within, Apart}
 use Rattle.sets.specs.Laws.Bits.{bit-zero, bit-le, bit-union, bit-single-same, bit-single-other, lt-pow, member-lt, ext, union-lt}
 use Rattle.sets.specs.Laws.Subset.{has-true, has-false, one-has, zero-has}
 use Rattle.sets.specs.Laws.Members.{members-sound, members-complete, members-below, members-length, members-rising}
 use Rattle.literals.specs.Literal.{Literal, variable}
 use Rattle.literals.specs.Truth.{holds, allHold, yesBit, noBit, yesMask, noMask}
-use Rattle.book.specs.Format.{OrderBook, Cost, rising}
-use Rattle.book.specs.Answer.{table, row, padded}
-use Rattle.step.specs.Meaning.{literalOf, costOf, sumBelow, setCost}
+use Rattle.literals.specs.Laws.{Proper}
+use Rattle.problem.specs.Problem.{Problem, costOf, literalCost}
+use Rattle.step.specs.Meaning.{literalOf, sumBelow, setCost}
 use Rattle.step.specs.Laws.Costs.{sum-same, sum-le, sum-one}
-use Rattle.step.specs.Theorems.{oppositeOn, oppositeOff}
+use Rattle.step.specs.IsStep.{oppositeOn, oppositeOff}
+use Rattle.log.specs.Format.{risingOver}
 use Rattle.log.specs.Meaning.{literalsOf}
-use Rattle.engine.specs.Demand3.{In, noCost, costOfLiteral, costOfSet}
+use Rattle.log.specs.Demand3.{In, costOfSet}
 
 -- ---- the members of a set of literals
 
@@ -201,18 +202,19 @@ variable-signed v false = refl
 rising-members : (m : ℕ) → RisingFrom 0 (members m)
 rising-members m = subst (RisingFrom 0) (members-below m m (lt-pow m)) (members-rising m m)
 
-rises-signed : (u last : ℕ) (g : ℕ → Bool) (xs : List ℕ) → RisingFrom last xs → ((v : ℕ) → List·Memᴰ v xs → v < u) → rising u last (map (signed g) xs) ≡ true
-unfolding rising
-rises-signed u last g [] r h = refl
-rises-signed u last g (x ∷ xs) r h =
-    rw (variable-signed x (g x), lt-ltb last (suc x) (omega (arith, r .0)), le-leb (suc x) u (h x (List·Memᴰ·head refl)))
-    (rises-signed u (suc x) g xs (r .1) (λ v m. h v (List·Memᴰ·tail m)))
+rises-signed : (ch last : ℕ) (g : ℕ → Bool) (xs : List ℕ) → RisingFrom last xs → ((v : ℕ) → List·Memᴰ v xs → bit ch v ≡ 1) → risingOver ch last (map (signed g) xs) ≡ true
+unfolding risingOver
+rises-signed ch last g [] r h = refl
+rises-signed ch last g (x ∷ xs) r h =
+    let e : suc x - 1 ≡ x = omega arith in
+    rw (variable-signed x (g x), lt-ltb last (suc x) (omega (arith, r .0)), e, one-has ch x (h x (List·Memᴰ·head refl)))
+    (rises-signed ch (suc x) g xs (r .1) (λ v m. h v (List·Memᴰ·tail m)))
 
-pub list-rises : (u on off : ℕ) → on < 2 ^ u → off < 2 ^ u → rising u 0 (literalsOf on off) ≡ true
+pub list-rises : (ch on off : ℕ) → Within on ch → Within off ch → risingOver ch 0 (literalsOf on off) ≡ true
 unfolding literalsOf
-list-rises u on off p q =
-    rises-signed u 0 (has on) (members (union on off)) (rising-members (union on off))
-    (λ v m. member-lt u (union on off) v (members-in (union on off) v m) (union-lt u on off p q))
+list-rises ch on off p q =
+    rises-signed ch 0 (has on) (members (union on off)) (rising-members (union on off))
+    (λ v m. omega (arith, members-in (union on off) v m, bit-union on off v, p .keeps v, q .keeps v, bit-le ch v))
 
 -- ---- the masks of a set's list are the set
 
@@ -295,43 +297,6 @@ module _ (t : List (List ℕ)) (n x y on off : ℕ) where
 
 -- ---- the cost of one literal
 
-getD-row : (cs : List Cost) (v : ℕ) → v < length cs → getD (map row cs) v [] ≡ row (getD cs v noCost)
-getD-row [] v h = absurd (omega arith)
-getD-row (c ∷ cs) zero h = refl
-getD-row (c ∷ cs) (suc v) h = getD-row cs v (omega arith)
-
-table-row : (cs : List Cost) (v : ℕ) → v < length cs → getD (table cs) v [] ≡ row (getD cs v noCost)
-unfolding table padded
-table-row cs v h = List·getD-append (map row cs) _ [] v (omega (arith, length-map cs row)) ∙ getD-row cs v h
-
-pub literal-cost-yes : (b : OrderBook) (v : ℕ) → v < length (b .costs) → costOfLiteral b (pos (suc v)) ≡ costOf (table (b .costs)) v 0
-unfolding costOfLiteral costOf variable
-literal-cost-yes b v h =
-    let e : suc v - 1 ≡ v = omega arith in
-    ap (λ (u : ℕ). getD (b .costs) u noCost .ofYes) e ∙ sym (ap (λ (r : List ℕ). getD r 0 0) (table-row (b .costs) v h))
-
-pub literal-cost-no : (b : OrderBook) (v : ℕ) → v < length (b .costs) → costOfLiteral b (negsuc v) ≡ costOf (table (b .costs)) v 1
-unfolding costOfLiteral costOf variable
-literal-cost-no b v h =
-    let e : suc v - 1 ≡ v = omega arith in
-    ap (λ (u : ℕ). getD (b .costs) u noCost .ofNo) e ∙ sym (ap (λ (r : List ℕ). getD r 1 0) (table-row (b .costs) v h))
-
--- the column of a literal's sign
-abbrev pub column : Literal → ℕ
-column (pos v) = 0
-column (negsuc v) = 1
-
-pub literal-cost : (b : OrderBook) (l : Literal) → 0 < variable l → variable l ≤ length (b .costs)
-    → costOfLiteral b l ≡ costOf (table (b .costs)) (variable l - 1) (column l)
-unfolding variable
-literal-cost b (pos zero) p h = absurd (omega arith)
-literal-cost b (pos (suc v)) p h =
-    let e : suc v - 1 ≡ v = omega arith in
-    literal-cost-yes b v h ∙ ap (λ (u : ℕ). costOf (table (b .costs)) u 0) (sym e)
-literal-cost b (negsuc v) p h =
-    let e : suc v - 1 ≡ v = omega arith in
-    literal-cost-no b v h ∙ ap (λ (u : ℕ). costOf (table (b .costs)) u 1) (sym e)
-
 single-cost-yes : (t : List (List ℕ)) (n v : ℕ) → v < n → setCost t n (single v) 0 ≡ costOf t v 0
 unfolding setCost
 single-cost-yes t n v h =
@@ -349,12 +314,11 @@ single-cost-no t n v h =
     ∙ omega (arith, sum-none n)
 
 -- its masks cost what it costs
-pub bits-cost : (b : OrderBook) (n : ℕ) (l : Literal) → 0 < variable l → variable l ≤ length (b .costs) → length (b .costs) ≤ n
-    → setCost (table (b .costs)) n (yesBit l) (noBit l) ≡ costOfLiteral b l
-unfolding variable yesBit noBit
-bits-cost b n (pos zero) p h k = absurd (omega arith)
-bits-cost b n (pos (suc v)) p h k = single-cost-yes (table (b .costs)) n v (omega arith) ∙ sym (literal-cost-yes b v h)
-bits-cost b n (negsuc v) p h k = single-cost-no (table (b .costs)) n v (omega arith) ∙ sym (literal-cost-no b v h)
+pub bits-cost : (p : Problem) (l : Literal) → 0 < variable l → variable l ≤ p .variables → setCost (p .costs) (p .variables) (yesBit l) (noBit l) ≡ literalCost (p .costs) l
+unfolding variable yesBit noBit literalCost
+bits-cost p (pos zero) h k = absurd (omega arith)
+bits-cost p (pos (suc v)) h k = single-cost-yes (p .costs) (p .variables) v k
+bits-cost p (negsuc v) h k = single-cost-no (p .costs) (p .variables) v k
 
 -- ---- the cost of a list
 
@@ -364,21 +328,20 @@ none-cost t n =
     sum-same n _ (λ u. 0) (λ v h. omega (arith, ap (λ (z : ℕ). z * costOf t v 0) (bit-zero v), ap (λ (z : ℕ). z * costOf t v 1) (bit-zero v)))
     ∙ sum-none n
 
--- Each literal is over a choice.
-abbrev pub Choices : OrderBook → List Literal → Type 0
-Choices b ls = (l : Literal) → In l ls → (0 < variable l) × (variable l ≤ length (b .costs))
+-- Each literal is over a variable.
+abbrev pub OverVariables : Problem → List Literal → Type 0
+OverVariables p ls = (l : Literal) → In l ls → (0 < variable l) × (variable l ≤ p .variables)
 
-pub mask-cost : (b : OrderBook) (n : ℕ) (ls : List Literal) → length (b .costs) ≤ n → Choices b ls
-    → setCost (table (b .costs)) n (yesMask ls) (noMask ls) ≤ costOfSet b ls
+pub mask-cost : (p : Problem) (ls : List Literal) → OverVariables p ls → setCost (p .costs) (p .variables) (yesMask ls) (noMask ls) ≤ costOfSet p ls
 unfolding yesMask noMask costOfSet
-mask-cost b n [] h c = omega (arith, none-cost (table (b .costs)) n)
-mask-cost b n (l ∷ ls) h c =
+mask-cost p [] c = omega (arith, none-cost (p .costs) (p .variables))
+mask-cost p (l ∷ ls) c =
     let at = c l (List·Memᴰ·head refl) in
     omega (
       arith,
-      union-cost-le (table (b .costs)) n (yesBit l) (noBit l) (yesMask ls) (noMask ls),
-      bits-cost b n l (at .0) (at .1) h,
-      mask-cost b n ls h (λ x m. c x (List·Memᴰ·tail m)),
+      union-cost-le (p .costs) (p .variables) (yesBit l) (noBit l) (yesMask ls) (noMask ls),
+      bits-cost p l (at .0) (at .1),
+      mask-cost p ls (λ x m. c x (List·Memᴰ·tail m)),
     )
 
 -- a list that rises
@@ -435,41 +398,38 @@ apart-no x says m e = record {
 }
 
 -- one literal more, over a variable that the masks leave
-more-cost : (b : OrderBook) (n v : ℕ) (says : Bool) (on off : ℕ) → length (b .costs) ≤ n → v < length (b .costs) → bit on v ≡ 0 → bit off v ≡ 0
-    → setCost (table (b .costs)) n (union (yesBit (literalOf v says)) on) (union (noBit (literalOf v says)) off)
-    ≡ costOfLiteral b (literalOf v says) + setCost (table (b .costs)) n on off
-more-cost b n v says on off h k p q =
+more-cost : (p : Problem) (v : ℕ) (says : Bool) (on off : ℕ) → v < p .variables → bit on v ≡ 0 → bit off v ≡ 0
+    → setCost (p .costs) (p .variables) (union (yesBit (literalOf v says)) on) (union (noBit (literalOf v says)) off)
+    ≡ literalCost (p .costs) (literalOf v says) + setCost (p .costs) (p .variables) on off
+more-cost p v says on off k x y =
     let e = variable-signed v says in
     omega (
       arith,
-      union-cost (table (b .costs)) n (yesBit (literalOf v says)) (noBit (literalOf v says)) on off (apart-yes v says on p) (apart-no v says off q),
-      bits-cost b n (literalOf v says) (omega arith) (omega arith) h,
+      union-cost (p .costs) (p .variables) (yesBit (literalOf v says)) (noBit (literalOf v says)) on off (apart-yes v says on x) (apart-no v says off y),
+      bits-cost p (literalOf v says) (omega arith) (omega arith),
     )
 
-signed-cost : (b : OrderBook) (n : ℕ) (g : ℕ → Bool) (last : ℕ) (xs : List ℕ) → length (b .costs) ≤ n → RisingFrom last xs
-    → ((v : ℕ) → List·Memᴰ v xs → v < length (b .costs))
-    → setCost (table (b .costs)) n (yesMask (map (signed g) xs)) (noMask (map (signed g) xs)) ≡ costOfSet b (map (signed g) xs)
+signed-cost : (p : Problem) (g : ℕ → Bool) (last : ℕ) (xs : List ℕ) → RisingFrom last xs → ((v : ℕ) → List·Memᴰ v xs → v < p .variables)
+    → setCost (p .costs) (p .variables) (yesMask (map (signed g) xs)) (noMask (map (signed g) xs)) ≡ costOfSet p (map (signed g) xs)
 unfolding yesMask noMask costOfSet
-signed-cost b n g last [] h r c = none-cost (table (b .costs)) n
-signed-cost b n g last (x ∷ xs) h r c =
+signed-cost p g last [] r c = none-cost (p .costs) (p .variables)
+signed-cost p g last (x ∷ xs) r c =
     omega (
       arith,
-      more-cost b n x (g x) (yesMask (map (signed g) xs)) (noMask (map (signed g) xs)) h (c x (List·Memᴰ·head refl))
+      more-cost p x (g x) (yesMask (map (signed g) xs)) (noMask (map (signed g) xs)) (c x (List·Memᴰ·head refl))
           (low-yes g (suc x) xs x (r .1) (omega arith)) (low-no g (suc x) xs x (r .1) (omega arith)),
-      signed-cost b n g (suc x) xs h (r .1) (λ v m. c v (List·Memᴰ·tail m)),
+      signed-cost p g (suc x) xs (r .1) (λ v m. c v (List·Memᴰ·tail m)),
     )
 
-again-cost : (b : OrderBook) (n on off : ℕ) → on < 2 ^ length (b .costs) → off < 2 ^ length (b .costs) → length (b .costs) ≤ n
-    → setCost (table (b .costs)) n (yesMask (literalsOf on off)) (noMask (literalsOf on off)) ≡ costOfSet b (literalsOf on off)
-unfolding literalsOf
-again-cost b n on off p q h =
-    signed-cost b n (has on) 0 (members (union on off)) h (rising-members (union on off))
-    (λ v m. member-lt _ (union on off) v (members-in (union on off) v m) (union-lt _ on off p q))
+module _ (p : Problem) (on off : ℕ) (on-below : on < 2 ^ p .variables) (off-below : off < 2 ^ p .variables) where
+  again-cost : setCost (p .costs) (p .variables) (yesMask (literalsOf on off)) (noMask (literalsOf on off)) ≡ costOfSet p (literalsOf on off)
+  unfolding literalsOf
+  again-cost =
+      signed-cost p (has on) 0 (members (union on off)) (rising-members (union on off))
+      (λ v m. member-lt _ (union on off) v (members-in (union on off) v m) (union-lt _ on off on-below off-below))
 
-pub list-cost : (b : OrderBook) (n on off : ℕ) → on < 2 ^ length (b .costs) → off < 2 ^ length (b .costs) → length (b .costs) ≤ n
-    → Apart on off → setCost (table (b .costs)) n on off ≡ costOfSet b (literalsOf on off)
-list-cost b n on off p q h a =
-    sym (ap₂ (λ (x : ℕ) (y : ℕ). setCost (table (b .costs)) n x y) (yes-again on off) (no-again on off a)) ∙ again-cost b n on off p q h
+  pub list-cost : Apart on off → setCost (p .costs) (p .variables) on off ≡ costOfSet p (literalsOf on off)
+  list-cost a = sym (ap₂ (λ (x : ℕ) (y : ℕ). setCost (p .costs) (p .variables) x y) (yes-again on off) (no-again on off a)) ∙ again-cost
 
 -- ---- with the opposite of a literal
 
@@ -487,26 +447,137 @@ opposite-literal : (v : ℕ) (says : Bool) → negℤ (literalOf v says) ≡ lit
 opposite-literal v true = refl
 opposite-literal v false = refl
 
-pub opposite-cost : (b : OrderBook) (n on off : ℕ) → on < 2 ^ length (b .costs) → off < 2 ^ length (b .costs)
-    → length (b .costs) ≤ n → Apart on off → (v : ℕ) (says : Bool) → v < length (b .costs) → bit on v ≡ 0 → bit off v ≡ 0
-    → setCost (table (b .costs)) n (oppositeOn says on v) (oppositeOff says off v) ≡ costOfSet b (negℤ (literalOf v says) ∷ literalsOf on off)
+pub opposite-cost : (p : Problem) (on off : ℕ) → on < 2 ^ p .variables → off < 2 ^ p .variables → Apart on off
+    → (v : ℕ) (says : Bool) → v < p .variables → bit on v ≡ 0 → bit off v ≡ 0
+    → setCost (p .costs) (p .variables) (oppositeOn says on v) (oppositeOff says off v) ≡ costOfSet p (negℤ (literalOf v says) ∷ literalsOf on off)
 unfolding costOfSet
-opposite-cost b n on off p q h a v says l x y =
-    ap₂ (λ (i : ℕ) (j : ℕ). setCost (table (b .costs)) n i j) (opposite-on says on v) (opposite-off says off v)
-    ∙ more-cost b n v (not says) on off h l x y
-    ∙ ap₂ (λ (i : Literal) (j : ℕ). costOfLiteral b i + j) (sym (opposite-literal v says)) (list-cost b n on off p q h a)
+opposite-cost p on off h k a v says l x y =
+    ap₂ (λ (i : ℕ) (j : ℕ). setCost (p .costs) (p .variables) i j) (opposite-on says on v) (opposite-off says off v)
+    ∙ more-cost p v (not says) on off l x y
+    ∙ ap₂ (λ (i : Literal) (j : ℕ). literalCost (p .costs) i + j) (sym (opposite-literal v says)) (list-cost p on off h k a)
 
-pub opposite-le : (b : OrderBook) (n : ℕ) (ls : List Literal) → length (b .costs) ≤ n → Choices b ls
-    → (v : ℕ) (says : Bool) → v < length (b .costs)
-    → setCost (table (b .costs)) n (oppositeOn says (yesMask ls) v) (oppositeOff says (noMask ls) v) ≤ costOfSet b (negℤ (literalOf v says) ∷ ls)
+pub opposite-le : (p : Problem) (ls : List Literal) → OverVariables p ls → (v : ℕ) (says : Bool) → v < p .variables
+    → setCost (p .costs) (p .variables) (oppositeOn says (yesMask ls) v) (oppositeOff says (noMask ls) v) ≤ costOfSet p (negℤ (literalOf v says) ∷ ls)
 unfolding costOfSet
-opposite-le b n ls h c v says l =
+opposite-le p ls c v says l =
     let e = variable-signed v (not says) in
     omega (
       arith,
-      ap₂ (λ (i : ℕ) (j : ℕ). setCost (table (b .costs)) n i j) (opposite-on says (yesMask ls) v) (opposite-off says (noMask ls) v),
-      union-cost-le (table (b .costs)) n (yesBit (literalOf v (not says))) (noBit (literalOf v (not says))) (yesMask ls) (noMask ls),
-      bits-cost b n (literalOf v (not says)) (omega arith) (omega arith) h,
-      ap (costOfLiteral b) (opposite-literal v says),
-      mask-cost b n ls h c,
+      ap₂ (λ (i : ℕ) (j : ℕ). setCost (p .costs) (p .variables) i j) (opposite-on says (yesMask ls) v) (opposite-off says (noMask ls) v),
+      union-cost-le (p .costs) (p .variables) (yesBit (literalOf v (not says))) (noBit (literalOf v (not says))) (yesMask ls) (noMask ls),
+      bits-cost p (literalOf v (not says)) (omega arith) (omega arith),
+      ap (literalCost (p .costs)) (opposite-literal v says),
+      mask-cost p ls c,
     )
+
+-- ---- a list of literals and the two masks that say the same
+
+pub record SameLiterals (ks : List Literal) (y n : ℕ) : Type 0 where
+  pub in-yes-bit : (v : ℕ) → In (pos (suc v)) ks → bit y v ≡ 1
+  pub yes-bit-in : (v : ℕ) → bit y v ≡ 1 → In (pos (suc v)) ks
+  pub in-no-bit : (v : ℕ) → In (negsuc v) ks → bit n v ≡ 1
+  pub no-bit-in : (v : ℕ) → bit n v ≡ 1 → In (negsuc v) ks
+  pub none-zero : In (pos zero) ks → ⊥
+
+literal-same : {u v : ℕ} → pos (suc u) ≡ pos (suc v) → u ≡ v
+unfolding variable
+literal-same e = let a = ap variable e in omega arith
+
+literal-same-no : {u v : ℕ} → negsuc u ≡ negsuc v → u ≡ v
+unfolding variable
+literal-same-no e = let a = ap variable e in omega arith
+
+positive : Literal → Bool
+positive (pos v) = true
+positive (negsuc v) = false
+
+signs-differ : {u v : ℕ} → pos u ≡ negsuc v → ⊥
+unfolding positive
+signs-differ e = true≢false (ap positive e)
+
+pub listed-yes : (on off v : ℕ) → In (pos (suc v)) (literalsOf on off) → bit on v ≡ 1
+listed-yes on off v i = let m = list-member on off _ i in go (m .variable-of) (m .which)
+  where
+    go : (u : ℕ) → ((pos (suc v) ≡ pos (suc u)) × (bit on u ≡ 1)) ⊎ ((pos (suc v) ≡ negsuc u) × (bit off u ≡ 1)) → bit on v ≡ 1
+    go u (inl t) = ap (bit on) (literal-same (t .0)) ∙ t .1
+    go u (inr t) = absurd (signs-differ (t .0))
+
+pub listed-no : (on off v : ℕ) → In (negsuc v) (literalsOf on off) → bit off v ≡ 1
+listed-no on off v i = let m = list-member on off _ i in go (m .variable-of) (m .which)
+  where
+    go : (u : ℕ) → ((negsuc v ≡ pos (suc u)) × (bit on u ≡ 1)) ⊎ ((negsuc v ≡ negsuc u) × (bit off u ≡ 1)) → bit off v ≡ 1
+    go u (inl t) = absurd (signs-differ (sym (t .0)))
+    go u (inr t) = ap (bit off) (literal-same-no (t .0)) ∙ t .1
+
+pub listed-zero : (on off : ℕ) → In (pos zero) (literalsOf on off) → ⊥
+unfolding variable
+listed-zero on off i = let m = list-member on off _ i in go (m .variable-of) (m .which)
+  where
+    go : (u : ℕ) → ((pos zero ≡ pos (suc u)) × (bit on u ≡ 1)) ⊎ ((pos zero ≡ negsuc u) × (bit off u ≡ 1)) → ⊥
+    go u (inl t) = let a = ap variable (t .0) in omega arith
+    go u (inr t) = absurd (signs-differ (t .0))
+
+pub same-listed : (on off : ℕ) → Apart on off → SameLiterals (literalsOf on off) on off
+same-listed on off a =
+    record {
+      in-yes-bit = listed-yes on off;
+      yes-bit-in = in-yes on off;
+      in-no-bit = listed-no on off;
+      no-bit-in = λ v e. in-no on off v e (omega (arith, e, a .avoids v));
+      none-zero = listed-zero on off;
+    }
+
+-- the two lists in a row
+pub same-both : {ks ls : List Literal} {y n a o : ℕ} → SameLiterals ks y n → SameLiterals ls a o → SameLiterals (ks ++ ls) (union y a) (union n o)
+same-both {ks} {ls} {y} {n} {a} {o} s t =
+    record {
+      in-yes-bit = λ v i. one y a v (either (λ k. inl (s .in-yes-bit v k)) (λ k. inr (t .in-yes-bit v k)) (List·Memᴰ·append-cases ks i));
+      yes-bit-in = λ v e. split y a v e (λ k. Memᴰ·append-left ls (s .yes-bit-in v k)) (λ k. Memᴰ·append-right ks (t .yes-bit-in v k));
+      in-no-bit = λ v i. one n o v (either (λ k. inl (s .in-no-bit v k)) (λ k. inr (t .in-no-bit v k)) (List·Memᴰ·append-cases ks i));
+      no-bit-in = λ v e. split n o v e (λ k. Memᴰ·append-left ls (s .no-bit-in v k)) (λ k. Memᴰ·append-right ks (t .no-bit-in v k));
+      none-zero = λ i. either (s .none-zero) (t .none-zero) (List·Memᴰ·append-cases ks i);
+    }
+  where
+    either : {A B C : Type 0} → (A → C) → (B → C) → A ⊎ B → C
+    either f g (inl x) = f x
+    either f g (inr x) = g x
+
+    one : (p q v : ℕ) → (bit p v ≡ 1) ⊎ (bit q v ≡ 1) → bit (union p q) v ≡ 1
+    one p q v (inl e) = omega (arith, e, bit-union p q v, bit-le q v)
+    one p q v (inr e) = omega (arith, e, bit-union p q v, bit-le p v)
+
+    split : (p q v : ℕ) {C : Type 0} → bit (union p q) v ≡ 1 → (bit p v ≡ 1 → C) → (bit q v ≡ 1 → C) → C
+    split p q v e f g = by-cases (ℕ-discrete (bit p v) 1) f (λ d. g (omega (arith, e, bit-union p q v, bit-le p v, bit-le q v)))
+
+-- a literal and its opposite do not both hold
+pub clash : (f v : ℕ) (says : Bool) → holds f (literalOf v says) ≡ true → holds f (negℤ (literalOf v says)) ≡ true → ⊥
+clash f v true p n = omega (arith, holds-pos f v p, holds-neg f v n)
+clash f v false p n = omega (arith, holds-neg f v p, holds-pos f v n)
+
+-- all of a list holds exactly where the first and the others do
+pub first-holds : (f : ℕ) (l : Literal) (ls : List Literal) → allHold f (l ∷ ls) ≡ true → (holds f l ≡ true) × (allHold f ls ≡ true)
+first-holds f l ls e = (all-in f _ e l (List·Memᴰ·head refl), in-all f ls (λ k i. all-in f _ e k (List·Memᴰ·tail i)))
+
+pub holds-first : (f : ℕ) (l : Literal) (ls : List Literal) → holds f l ≡ true → allHold f ls ≡ true → allHold f (l ∷ ls) ≡ true
+unfolding allHold
+holds-first f l ls h a = rw h a
+
+no-zero : (ls : List Literal) → Proper ls → In (pos zero) ls → ⊥
+unfolding variable
+no-zero [] p i = List·Memᴰ·not-nil i
+no-zero (l ∷ ls) p i = go (List·Memᴰ·cases-cons i) (no-zero ls)
+  where
+    go : (pos zero ≡ l) ⊎ In (pos zero) ls → (Proper ls → In (pos zero) ls → ⊥) → ⊥
+    go (inl e) ih = let a = ap variable e in omega (arith, p .0)
+    go (inr k) ih = ih (p .1) k
+
+-- a list over variables, and its own masks
+pub same-masks : (ls : List Literal) → Proper ls → SameLiterals ls (yesMask ls) (noMask ls)
+same-masks ls p =
+    record {
+      in-yes-bit = yes-mask ls;
+      yes-bit-in = mask-yes ls;
+      in-no-bit = no-mask ls;
+      no-bit-in = mask-no ls;
+      none-zero = no-zero ls p;
+    }

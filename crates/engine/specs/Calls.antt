@@ -1,0 +1,153 @@
+-- What the public calls mean, for any bytes: the answer of each, by equation, and the demands in the words of document 01. The contracts in src/lib.rt
+-- unfold to what stands here. Document 01's number and values are given for each case of an answer.
+use mathlib.Core.Path.{_≡_}
+use mathlib.Core.Bool.{Bool, true, false, cond, _&&_}
+use mathlib.Core.List.{List, _++_}
+use Prim.Native.Nat.{ℕ, _^_, _≤_, _<_}
+use lib.Dec.{ltb}
+use lib.ListN.{length, take, drop}
+use Rattle.sets.specs.Sets.{subset}
+use Rattle.literals.specs.declared.LiteralSet.{LiteralSet}
+use Rattle.book.specs.Limits.{maxLog}
+use Rattle.book.specs.Format.{Read, value, refused, OrderBook, readBook}
+use Rattle.problem.specs.Problem.{Problem, problemOf, given}
+use Rattle.consequence.specs.Meaning.{models, hasModel, consequenceOf}
+use Rattle.consequence.specs.Demand2.{Demand2, NoFilling}
+use Rattle.step.specs.Meaning.{questionOf, Answer, nothingLeft, noCandidate, step, stepOf}
+use Rattle.log.specs.Format.{Log, logBytes}
+use Rattle.log.specs.Meaning.{Run, done, stuck, runFor, logOf}
+use Rattle.log.specs.Demand3.{Explained}
+use Rattle.engine.specs.declared.ModelAnswer.{ModelAnswer}
+use Rattle.engine.specs.declared.ModelAnswer.the-variants as ModelAnswer
+use Rattle.engine.specs.declared.ConsequenceAnswer.{ConsequenceAnswer}
+use Rattle.engine.specs.declared.ConsequenceAnswer.the-variants as ConsequenceAnswer
+use Rattle.engine.specs.declared.StepAnswer.{StepAnswer}
+use Rattle.engine.specs.declared.StepAnswer.the-variants as StepAnswer
+use Rattle.engine.specs.declared.LogAnswer.{LogAnswer}
+use Rattle.engine.specs.declared.LogAnswer.the-variants as LogAnswer
+
+-- ---- every call but the readers
+
+module _ {A : Type 0} (answer : Problem → A) (refuse : ℕ → ℕ → A) where
+  -- A book that is not proper is refused as the reader refuses it, one without a model with 9 at 0; otherwise its problem is answered.
+  unfoldable pub withModel : Read OrderBook → A
+  withModel (refused number place) = refuse number place
+  withModel (value b end) = cond (hasModel (problemOf b)) (answer (problemOf b)) (refuse 9 0)
+
+-- The bytes are a proper book that no filling is a model of.
+abbrev pub NoModelIn : Read OrderBook → Type 0
+NoModelIn (refused number place) = ⊥
+NoModelIn (value b end) = NoFilling (problemOf b)
+
+-- 9 is answered exactly for a proper book without a model, wherever nothing that is checked before 9 refuses. One law shows it for each call that can give
+-- it (proofs/NineLaws).
+pub record NineExactly {A : Type 0} (refuse : ℕ → ℕ → A) (due : Type 0) (m : Read OrderBook) (r : A) : Type 0 where
+  pub nine-none : (place : ℕ) → r ≡ refuse 9 place → NoModelIn m
+  pub none-nine : due → NoModelIn m → r ≡ refuse 9 0
+
+-- ---- one model
+
+-- A model of the book: which one is free.
+pub record IsModelOf (p : Problem) (r : ModelAnswer) : Type 0 where
+  pub filling : ℕ
+  pub below : filling < 2 ^ p .variables
+  pub model : models p filling ≡ true
+  pub answered : r ≡ ModelAnswer.Model filling
+
+-- The answer on one model: a refusal of the reader, 9 at 0 exactly where the book has no model, or a model of the book.
+abbrev pub ModelSays : Read OrderBook → ModelAnswer → Type 0
+ModelSays (refused number place) r = r ≡ ModelAnswer.Refused number place
+ModelSays (value b end) r = (hasModel (problemOf b) ≡ true → IsModelOf (problemOf b) r) × (hasModel (problemOf b) ≡ false → r ≡ ModelAnswer.Refused 9 0)
+
+-- The contract of `model`.
+pub record ModelCall (s : List ℕ) (r : ModelAnswer) : Type 0 where
+  pub said : ModelSays (readBook s) r
+  pub nine : NineExactly ModelAnswer.Refused (Unit {0}) (readBook s) r
+
+-- ---- the consequence
+
+unfoldable pub consequenceAnswer : Read OrderBook → ConsequenceAnswer
+unfolding withModel
+consequenceAnswer m = withModel (λ p. ConsequenceAnswer.Forced (consequenceOf p)) ConsequenceAnswer.Refused m
+
+-- Demand 2, of what is filled in.
+abbrev pub FillsIn : Read OrderBook → ConsequenceAnswer → Type 0
+FillsIn (value b end) (ConsequenceAnswer.Forced two) = Demand2 (problemOf b) two
+FillsIn (value b end) (ConsequenceAnswer.Refused number place) = NoFilling (problemOf b)
+FillsIn (refused number place) r = r ≡ ConsequenceAnswer.Refused number place
+
+-- The contract of `consequence`.
+pub record ConsequenceCall (s : List ℕ) (r : ConsequenceAnswer) : Type 0 where
+  pub said : r ≡ consequenceAnswer (readBook s)
+  pub demand-2 : FillsIn (readBook s) r
+  pub nine : NineExactly ConsequenceAnswer.Refused (Unit {0}) (readBook s) r
+
+-- ---- the next step
+
+-- The answer on a step.
+unfoldable pub stepSays : Answer → StepAnswer
+stepSays nothingLeft = StepAnswer.NothingLeft
+stepSays noCandidate = StepAnswer.Refused 11 0
+stepSays (step s) = StepAnswer.Step (s .goal) (record { yes = s .reasons-on; no = s .reasons-off }) (record { yes = s .new-on; no = s .new-off }) (s .cost)
+
+-- A known set lies between the given facts and the consequence.
+unfoldable pub between : LiteralSet → LiteralSet → LiteralSet → Bool
+between facts known forced = subset (facts .yes) (known .yes) && subset (facts .no) (known .no) && subset (known .yes) (forced .yes) && subset (known .no) (forced .no)
+
+-- The step from a known set, or 10.
+unfoldable pub stepFor : LiteralSet → Problem → StepAnswer
+stepFor known p = cond (between (given p) known (consequenceOf p)) (stepSays (stepOf (questionOf p known))) (StepAnswer.Refused 10 0)
+
+-- After the book come 9, 10 and 11 in that order.
+unfoldable pub stepAnswer : ℕ → ℕ → Read OrderBook → StepAnswer
+unfolding withModel
+stepAnswer on off m = withModel (stepFor (record { yes = on; no = off })) StepAnswer.Refused m
+
+-- The contract of `next_step`.
+pub record StepCall (s : List ℕ) (on off : ℕ) (r : StepAnswer) : Type 0 where
+  pub said : r ≡ stepAnswer on off (readBook s)
+  pub nine : NineExactly StepAnswer.Refused (Unit {0}) (readBook s) r
+
+-- ---- the log
+
+-- What the call comes to: the log, or the refusal's number and place.
+pub data LogOutcome : Type 0 where
+  logged : Log → LogOutcome
+  refusedWith : ℕ → ℕ → LogOutcome
+
+-- 11 where goals exist and no candidate does.
+unfoldable pub ofRun : Run → LogOutcome
+ofRun (done ss) = logged (logOf ss)
+ofRun stuck = refusedWith 11 0
+
+-- After the book come 8, 9 and 11 in that order.
+unfoldable pub logOutcome : ℕ → Read OrderBook → LogOutcome
+unfolding withModel
+logOutcome room (refused number place) = refusedWith number place
+logOutcome room (value b end) = cond (ltb room maxLog) (refusedWith 8 0) (withModel (λ p. ofRun (runFor p)) refusedWith (value b end))
+
+-- The answer: the log's length, its number of steps and its total, or the refusal.
+unfoldable pub logAnswer : LogOutcome → LogAnswer
+logAnswer (logged l) = LogAnswer.Written (length (logBytes l)) (l .steps) (l .total)
+logAnswer (refusedWith number place) = LogAnswer.Refused number place
+
+-- The buffer at exit: the log and then the old bytes, or as it was.
+unfoldable pub bufferAfter : LogOutcome → List ℕ → List ℕ
+bufferAfter (logged l) before = logBytes l ++ drop (length (logBytes l)) before
+bufferAfter (refusedWith number place) before = before
+
+pub record LoggedAs (o : LogOutcome) (before after : List ℕ) (r : LogAnswer) : Type 0 where
+  pub answered : r ≡ logAnswer o
+  pub buffer : after ≡ bufferAfter o before
+
+-- Demand 3: what stands in the buffer at exit is such a log; and where some filling is a model and the buffer is long enough, a log is written.
+abbrev pub Explains : Read OrderBook → List ℕ → List ℕ → LogAnswer → Type 0
+Explains (value b end) before after (LogAnswer.Written size steps total) = Explained (problemOf b) (take size after) steps total
+Explains (value b end) before after (LogAnswer.Refused number place) = (f : ℕ) → f < 2 ^ problemOf b .variables → models (problemOf b) f ≡ true → maxLog ≤ length before → ⊥
+Explains (refused number place) before after r = r ≡ LogAnswer.Refused number place
+
+-- The contract of `log`.
+pub record LogCall (s before after : List ℕ) (r : LogAnswer) : Type 0 where
+  pub said : LoggedAs (logOutcome (length before) (readBook s)) before after r
+  pub demand-3 : Explains (readBook s) before after r
+  pub nine : NineExactly LogAnswer.Refused (maxLog ≤ length before) (readBook s) r

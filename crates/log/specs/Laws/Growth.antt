@@ -1,0 +1,234 @@
+-- What one step adds to what is known, over any theory: its new literals are of the consequence, and a goal is closed.
+-- Assumes nothing.
+use mathlib.Core.Path.{_≡_, refl, sym, ap, _∙_}
+use mathlib.Core.Bool.{Bool, true, false}
+use mathlib.Core.List.{List}
+use Prim.Native.Nat.{ℕ, _+_, _-_, _^_, _≤_, _<_, max}
+use native.Mathlib.Nat.{max-comm}
+use native.Mathlib.Decide.{ℕ-discrete}
+use native.Mathlib.Omega.{arith}
+use Rattle.sets.specs.Sets.{bit, union, diff, count, Within, Apart}
+use Rattle.sets.specs.Laws.Bits.{bit-le, bit-union, bit-diff, member-lt}
+use Rattle.sets.specs.Laws.Count.{ones-proper}
+use Rattle.literals.specs.declared.LiteralSet.{LiteralSet}
+use Rattle.consequence.specs.Meaning.{Theory, contradicts, yesForced, noForced, ModelOf}
+use Rattle.consequence.specs.Laws.Forcing.{Exactly, yes-exactly, no-exactly, forced-model, contradicts-not}
+use Rattle.step.specs.Meaning.{Question, asking, Step, step, stepOf, goals, yesGoals, noGoals}
+use Rattle.step.specs.IsStep.{Sound, Goal, Gained, IsStep}
+use Rattle.step.specs.Theorems.{step-is}
+use Rattle.log.specs.Contracts.{ForcedBy}
+
+-- ---- what the given facts force
+
+module _ {t : Theory} (below : t .choices < 2 ^ t .variables) {c facts : LiteralSet} (fc : ForcedBy t c facts) where
+  yes-exact : Exactly t (facts .yes) (facts .no) 1 (c .yes)
+  yes-exact = rw (fc .yes-forced) (yes-exactly t (facts .yes) (facts .no))
+
+  no-exact : Exactly t (facts .yes) (facts .no) 0 (c .no)
+  no-exact = rw (fc .no-forced) (no-exactly t (facts .yes) (facts .no))
+
+  -- every model of the given facts makes all of the consequence true
+  pub consequence-model : (f : ℕ) → ModelOf t (facts .yes) (facts .no) f → ModelOf t (c .yes) (c .no) f
+  consequence-model f m = rw (fc .yes-forced, fc .no-forced) (forced-model t (facts .yes) (facts .no) f m)
+
+  within-choices : (d m : ℕ) → Exactly t (facts .yes) (facts .no) d m → Within m (t .choices)
+  within-choices d m x = record { keeps = λ v. go v (ℕ-discrete (bit m v) 1) }
+    where
+      go : (v : ℕ) → Dec (bit m v ≡ 1) → bit m v ≤ bit (t .choices) v
+      go v (yes e) = omega (arith, e, x .sound v e .0)
+      go v (no e) = omega (arith, bit-le m v)
+
+  pub yes-choices : Within (c .yes) (t .choices)
+  yes-choices = within-choices 1 _ yes-exact
+
+  pub no-choices : Within (c .no) (t .choices)
+  no-choices = within-choices 0 _ no-exact
+
+  pub yes-below : c .yes < 2 ^ t .variables
+  yes-below = yes-exact .below
+
+  pub no-below : c .no < 2 ^ t .variables
+  no-below = no-exact .below
+
+  -- a given fact over a choice is forced
+  pub yes-given : Within (facts .yes) (t .choices) → Within (facts .yes) (c .yes)
+  yes-given w = record { keeps = λ v. go v (ℕ-discrete (bit (facts .yes) v) 1) }
+    where
+      go : (v : ℕ) → Dec (bit (facts .yes) v ≡ 1) → bit (facts .yes) v ≤ bit (c .yes) v
+      go v (yes e) =
+          let o : bit (t .choices) v ≡ 1 = omega (arith, e, w .keeps v, bit-le (t .choices) v) in
+          omega (arith, e, yes-exact .complete v (member-lt _ (t .choices) v o below) o (λ f m. omega (arith, e, m .keeps .keeps v, bit-le f v)))
+      go v (no e) = omega (arith, bit-le (facts .yes) v)
+
+  pub no-given : Within (facts .no) (t .choices) → Within (facts .no) (c .no)
+  no-given w = record { keeps = λ v. go v (ℕ-discrete (bit (facts .no) v) 1) }
+    where
+      go : (v : ℕ) → Dec (bit (facts .no) v ≡ 1) → bit (facts .no) v ≤ bit (c .no) v
+      go v (yes e) =
+          let o : bit (t .choices) v ≡ 1 = omega (arith, e, w .keeps v, bit-le (t .choices) v) in
+          omega (arith, e, no-exact .complete v (member-lt _ (t .choices) v o below) o (λ f m. omega (arith, e, m .avoids .avoids v)))
+      go v (no e) = omega (arith, bit-le (facts .no) v)
+
+  -- where the given facts do not contradict the rules, a step can be asked for from any known set within what they force
+  module _ (some : contradicts t (facts .yes) (facts .no) ≡ false) where
+    pub consequence-has : (f : ℕ) × ModelOf t (c .yes) (c .no) f
+    consequence-has = let m = contradicts-not t (facts .yes) (facts .no) some in (m .0, consequence-model (m .0) (m .1))
+
+    pub consequence-apart : Apart (c .yes) (c .no)
+    consequence-apart =
+        let m = consequence-has in
+        record { avoids = λ v. omega (arith, m .1 .keeps .keeps v, m .1 .avoids .avoids v) }
+
+    pub sound-known : (table : List (List ℕ)) (known : LiteralSet) → Within (known .yes) (c .yes) → Within (known .no) (c .no) → Sound (asking t table c known)
+    sound-known table known y n =
+        record { choices-below = below; on-choices = yes-choices; off-choices = no-choices; known-on = y; known-off = n; model = consequence-has }
+
+-- ---- digits of the goals
+
+max-mono : (x y u v : ℕ) → x ≤ u → y ≤ v → max x y ≤ max u v
+max-mono x y u v h k = omega arith
+
+sub-more : (x k m : ℕ) → x - max k m ≤ x - k
+sub-more x k m = omega arith
+
+-- open while one sign is wanted and not known, and closed where it has come and the other is not wanted
+still-open : (x k y m : ℕ) → x - k ≡ 1 → 1 ≤ max (x - k) (y - m)
+still-open x k y m e = omega arith
+
+now-closed : (x k g y m : ℕ) → x ≤ 1 → g ≡ 1 → y ≡ 0 → max (x - max k g) (y - m) ≡ 0
+now-closed x k g y m h e z =
+    let a : x - max k g ≡ 0 = omega arith in
+    let b : y - m ≡ 0 = omega arith in
+    rw (a, b) refl
+
+-- ---- one step
+
+module _ {t : Theory} {table : List (List ℕ)} {c facts : LiteralSet} (fc : ForcedBy t c facts) {known : LiteralSet} (a : Sound (asking t table c known)) {s : Step} (e : stepOf (asking t table c known) ≡ step s) where
+  is : IsStep (asking t table c known) s
+  is = step-is (asking t table c known) a s e
+
+  -- a model of the given facts makes the reasons true
+  reasons-model : (f : ℕ) → ModelOf t (facts .yes) (facts .no) f → ModelOf t (s .reasons-on) (s .reasons-off) f
+  reasons-model f m =
+      let w = consequence-model (a .choices-below) fc f m in
+      record {
+        below = m .below;
+        keeps = record { keeps = λ v. omega (arith, is .is-candidate .on-known .keeps v, a .known-on .keeps v, w .keeps .keeps v) };
+        avoids = record { avoids = λ v. omega (arith, is .is-candidate .off-known .keeps v, a .known-off .keeps v, w .avoids .avoids v) };
+        obeyed = m .obeyed;
+      }
+
+  -- so the new literals are of the consequence
+  pub new-yes-within : Within (s .new-on) (c .yes)
+  new-yes-within = record { keeps = λ v. go v (ℕ-discrete (bit (s .new-on) v) 1) }
+    where
+      go : (v : ℕ) → Dec (bit (s .new-on) v ≡ 1) → bit (s .new-on) v ≤ bit (c .yes) v
+      go v (no d) = omega (arith, bit-le (s .new-on) v)
+      go v (yes d) =
+          let i = is .new-yes .sound v d in
+          let l : v < t .variables = member-lt _ (t .choices) v (i .0) (a .choices-below) in
+          omega (arith, d, yes-exact (a .choices-below) fc .complete v l (i .0) (λ f m. i .2 f (reasons-model f m)))
+
+  pub new-no-within : Within (s .new-off) (c .no)
+  new-no-within = record { keeps = λ v. go v (ℕ-discrete (bit (s .new-off) v) 1) }
+    where
+      go : (v : ℕ) → Dec (bit (s .new-off) v ≡ 1) → bit (s .new-off) v ≤ bit (c .no) v
+      go v (no d) = omega (arith, bit-le (s .new-off) v)
+      go v (yes d) =
+          let i = is .new-no .sound v d in
+          let l : v < t .variables = member-lt _ (t .choices) v (i .0) (a .choices-below) in
+          omega (arith, d, no-exact (a .choices-below) fc .complete v l (i .0) (λ f m. i .2 f (reasons-model f m)))
+
+  -- what is known next
+  more : LiteralSet
+  more = record { yes = union (known .yes) (s .new-on); no = union (known .no) (s .new-off) }
+
+  pub sound-more : Sound (asking t table c (record { yes = union (known .yes) (s .new-on); no = union (known .no) (s .new-off) }))
+  sound-more = record {
+    choices-below = a .choices-below;
+    on-choices = a .on-choices;
+    off-choices = a .off-choices;
+    known-on = record { keeps = λ v. omega (arith, bit-union (known .yes) (s .new-on) v, a .known-on .keeps v, new-yes-within .keeps v) };
+    known-off = record { keeps = λ v. omega (arith, bit-union (known .no) (s .new-off) v, a .known-off .keeps v, new-no-within .keeps v) };
+    model = a .model;
+  }
+
+  -- the goals, by their digits
+  goals-at : (k : LiteralSet) (v : ℕ) → bit (goals (asking t table c k)) v ≡ max (bit (c .yes) v - bit (k .yes) v) (bit (c .no) v - bit (k .no) v)
+  unfolding goals yesGoals noGoals
+  goals-at k v = bit-union (diff (c .yes) (k .yes)) (diff (c .no) (k .no)) v ∙ rw (bit-diff (c .yes) (k .yes) v, bit-diff (c .no) (k .no) v) refl
+
+  fewer : Within (goals (asking t table c more)) (goals (asking t table c known))
+  unfolding more
+  fewer = record {
+    keeps = λ v. rw (goals-at known v, goals-at more v, bit-union (known .yes) (s .new-on) v, bit-union (known .no) (s .new-off) v)
+        (max-mono _ _ _ _ (sub-more (bit (c .yes) v) (bit (known .yes) v) (bit (s .new-on) v)) (sub-more (bit (c .no) v) (bit (known .no) v) (bit (s .new-off) v)));
+  }
+
+  -- the goal was open, and is no more
+  apart-at : (v : ℕ) → bit (c .yes) v + bit (c .no) v ≤ 1
+  apart-at v = omega (arith, a .model .1 .keeps .keeps v, a .model .1 .avoids .avoids v)
+
+  gone : goals (asking t table c more) ≡ goals (asking t table c known) → ⊥
+  unfolding more yesGoals noGoals
+  gone same = go (is .says) (is .is-candidate .goal) (is .gained)
+    where
+      v : ℕ
+      v = is .variable
+
+      at-v : bit (goals (asking t table c more)) v ≡ bit (goals (asking t table c known)) v
+      at-v = ap (λ x. bit x v) same
+
+      go : (b : Bool) → Goal (asking t table c known) v b → Gained s v b → ⊥
+      go true g h =
+          let w : bit (c .yes) v - bit (known .yes) v ≡ 1 = sym (bit-diff (c .yes) (known .yes) v) ∙ g in
+          let o : bit (c .no) v ≡ 0 = omega (arith, apart-at v, w) in
+          let before : 1 ≤ bit (goals (asking t table c known)) v = rw (goals-at known v) (still-open _ _ _ _ w) in
+          let after : bit (goals (asking t table c more)) v ≡ 0 =
+          rw (goals-at more v, bit-union (known .yes) (s .new-on) v) (now-closed _ _ _ _ _ (bit-le (c .yes) v) h o) in
+          omega (arith, at-v)
+      go false g h =
+          let w : bit (c .no) v - bit (known .no) v ≡ 1 = sym (bit-diff (c .no) (known .no) v) ∙ g in
+          let o : bit (c .yes) v ≡ 0 = omega (arith, apart-at v, w) in
+          let before : 1 ≤ bit (goals (asking t table c known)) v = rw (goals-at known v, max-comm) (still-open _ _ _ _ w) in
+          let after : bit (goals (asking t table c more)) v ≡ 0 =
+          rw (goals-at more v, bit-union (known .no) (s .new-off) v, max-comm) (now-closed _ _ _ _ _ (bit-le (c .no) v) h o) in
+          omega (arith, at-v)
+
+  pub goals-fewer : count (goals (asking t table c (record { yes = union (known .yes) (s .new-on); no = union (known .no) (s .new-off) }))) < count (goals (asking t table c known))
+  unfolding more
+  goals-fewer = ones-proper _ _ fewer gone
+
+  -- ---- reasons and new literals
+
+  pub reasons-apart : Apart (s .reasons-on) (s .reasons-off)
+  reasons-apart =
+      record { avoids = λ v. omega (arith, is .is-candidate .on-known .keeps v, is .is-candidate .off-known .keeps v, a .known-on .keeps v, a .known-off .keeps v, apart-at v) }
+
+  pub new-apart : Apart (s .new-on) (s .new-off)
+  new-apart = record { avoids = λ v. omega (arith, new-yes-within .keeps v, new-no-within .keeps v, apart-at v) }
+
+  -- a new literal was not known
+  yes-unknown : (v : ℕ) → bit (s .new-on) v + bit (known .yes) v ≤ 1
+  yes-unknown v = go (ℕ-discrete (bit (s .new-on) v) 1)
+    where
+      go : Dec (bit (s .new-on) v ≡ 1) → bit (s .new-on) v + bit (known .yes) v ≤ 1
+      go (yes d) = omega (arith, d, is .new-yes .sound v d .1)
+      go (no d) = omega (arith, bit-le (s .new-on) v, bit-le (known .yes) v)
+
+  no-unknown : (v : ℕ) → bit (s .new-off) v + bit (known .no) v ≤ 1
+  no-unknown v = go (ℕ-discrete (bit (s .new-off) v) 1)
+    where
+      go : Dec (bit (s .new-off) v ≡ 1) → bit (s .new-off) v + bit (known .no) v ≤ 1
+      go (yes d) = omega (arith, d, is .new-no .sound v d .1)
+      go (no d) = omega (arith, bit-le (s .new-off) v, bit-le (known .no) v)
+
+  sorted : (a b x y k l m o : ℕ) → a ≤ k → b ≤ l → k ≤ m → l ≤ o → m + o ≤ 1 → x ≤ m → y ≤ o → x + k ≤ 1 → y + l ≤ 1 → max a b + max x y ≤ 1
+  sorted a b x y k l m o p q r t u v w z j = omega arith
+
+  pub reasons-new-apart : Apart (union (s .reasons-on) (s .reasons-off)) (union (s .new-on) (s .new-off))
+  reasons-new-apart = record {
+    avoids = λ v. rw (bit-union (s .reasons-on) (s .reasons-off) v, bit-union (s .new-on) (s .new-off) v)
+        (sorted _ _ _ _ _ _ _ _ (is .is-candidate .on-known .keeps v) (is .is-candidate .off-known .keeps v) (a .known-on .keeps v) (a .known-off .keeps v) (apart-at v)
+        (new-yes-within .keeps v) (new-no-within .keeps v) (yes-unknown v) (no-unknown v));
+  }

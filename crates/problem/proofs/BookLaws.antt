@@ -1,0 +1,192 @@
+-- The problem of an accepted book is proper, and the masks that the code makes of the book are those of the problem's rules.
+-- Assumes nothing.
+use mathlib.Core.Path.{_≡_, refl, sym, ap, _∙_}
+use mathlib.Core.Logic.{by-cases}
+use mathlib.Core.Bool.{Bool, true, false, _&&_, false≢true}
+use mathlib.Core.List.{List, [], _∷_, _++_, map, append-assoc}
+use Prim.Native.Nat.{ℕ, zero, suc, _+_, _-_, _^_, _≤_, _<_}
+use native.Mathlib.Nat.{le-trans}
+use native.Mathlib.Decide.{ℕ-discrete, decLt}
+use native.Mathlib.Omega.{arith}
+use borrow.Author.Tests.{ltb-true, leb-true}
+use lib.Dec.{ltb, leb}
+use lib.Pow.{pow-mono}
+use lib.IntN.{pos, negsuc}
+use lib.ListN.{length, take, replicate, length-map, length-append, length-replicate}
+use lib.Seq.{take-at, take-append-le}
+use Rattle.sets.specs.Sets.{bit, single, union, full, Within, Apart}
+use Rattle.sets.specs.Laws.Subset.{within-le}
+use Rattle.sets.specs.Laws.Bits.{bit-zero, bit-le, bit-union, bit-single-other, bit-full, full-lt, member-lt}
+use Rattle.literals.specs.Literal.{Literal, variable}
+use Rattle.literals.specs.Truth.{yesBit, noBit, yesMask, noMask}
+use Rattle.literals.specs.Laws.{Proper}
+use Rattle.book.specs.Limits.{maxVariables, maxChoices, maxRules, maxCost}
+use Rattle.book.specs.Format.{OrderBook, Cost, rising}
+use Rattle.book.specs.Answer.{kept, table, row, padded}
+use Rattle.book.proofs.WellFormed.{Each, Rises, GoodCost, WellFormed}
+use Rattle.sat.specs.Contracts.{Posed, Masks}
+use Rattle.sat.specs.Laws.Rules.{Of, masks-none, masks-more, yesMask-lt, noMask-lt}
+use Rattle.problem.specs.Limits.{mostRules}
+use Rattle.problem.specs.Problem.{Problem, problemOf, given, costOf}
+use Rattle.problem.specs.Masked.{widenedTo, maskedFrom}
+use Rattle.problem.specs.Proper.{AllOf, ProperProblem}
+
+-- ---- literals that rise
+
+-- the first literal of a list that rises, and the rest
+record First (n last : ℕ) (l : Literal) (ls : List Literal) : Type 0 where
+  above : last < variable l
+  upto : variable l ≤ n
+  rest : rising n (variable l) ls ≡ true
+
+first : (n last : ℕ) (l : Literal) (ls : List Literal) → rising n last (l ∷ ls) ≡ true → First n last l ls
+unfolding rising
+first n last l ls e = go (ltb last (variable l)) (leb (variable l) n) refl refl e
+  where
+    go : (a b : Bool) → ltb last (variable l) ≡ a → leb (variable l) n ≡ b → a && b && rising n (variable l) ls ≡ true → First n last l ls
+    go true true p q r = record { above = ltb-true _ _ p; upto = leb-true _ _ q; rest = r }
+    go true false p q r = absurd (false≢true r)
+    go false b p q r = absurd (false≢true r)
+
+rising-of : (n last : ℕ) (ls : List Literal) → rising n last ls ≡ true → Of n ls
+rising-of n last [] e = tt
+rising-of n last (l ∷ ls) e = let r = first n last l ls e in (r .upto, rising-of n (variable l) ls (r .rest))
+
+rising-proper : (n last : ℕ) (ls : List Literal) → rising n last ls ≡ true → Proper ls
+rising-proper n last [] e = tt
+rising-proper n last (l ∷ ls) e = let r = first n last l ls e in (omega (arith, r .above), rising-proper n (variable l) ls (r .rest))
+
+-- below the first variable the masks are empty
+low-yes : (l : Literal) (v : ℕ) → suc v < variable l → bit (yesBit l) v ≡ 0
+unfolding yesBit variable
+low-yes (pos zero) v h = bit-zero v
+low-yes (pos (suc u)) v h = bit-single-other u v (λ e. omega arith)
+low-yes (negsuc u) v h = bit-zero v
+
+low-no : (l : Literal) (v : ℕ) → suc v < variable l → bit (noBit l) v ≡ 0
+unfolding noBit variable
+low-no (pos u) v h = bit-zero v
+low-no (negsuc u) v h = bit-single-other u v (λ e. omega arith)
+
+rising-low : (n last : ℕ) (ls : List Literal) (v : ℕ) → rising n last ls ≡ true → v < last → (bit (yesMask ls) v ≡ 0) × (bit (noMask ls) v ≡ 0)
+unfolding yesMask noMask
+rising-low n last [] v e h = (bit-zero v, bit-zero v)
+rising-low n last (l ∷ ls) v e h =
+    let r = first n last l ls e in
+    let ih = rising-low n (variable l) ls v (r .rest) (omega (arith, r .above)) in (
+      bit-union (yesBit l) (yesMask ls) v ∙ rw (low-yes l v (omega (arith, r .above)), ih .0) refl,
+      bit-union (noBit l) (noMask ls) v ∙ rw (low-no l v (omega (arith, r .above)), ih .1) refl,
+    )
+
+-- one literal is not a yes and a no, and speaks of no other variable
+one-sign : (l : Literal) (v : ℕ) → bit (yesBit l) v + bit (noBit l) v ≤ 1
+unfolding yesBit noBit
+one-sign (pos zero) v = omega (arith, bit-zero v)
+one-sign (pos (suc u)) v = omega (arith, bit-zero v, bit-le (single u) v)
+one-sign (negsuc u) v = omega (arith, bit-zero v, bit-le (single u) v)
+
+high-bits : (l : Literal) (v : ℕ) → variable l ≤ v → (bit (yesBit l) v ≡ 0) × (bit (noBit l) v ≡ 0)
+unfolding yesBit noBit variable
+high-bits (pos zero) v h = (bit-zero v, bit-zero v)
+high-bits (pos (suc u)) v h = (bit-single-other u v (λ e. omega arith), bit-zero v)
+high-bits (negsuc u) v h = (bit-zero v, bit-single-other u v (λ e. omega arith))
+
+rising-apart : (n last : ℕ) (ls : List Literal) → rising n last ls ≡ true → Apart (yesMask ls) (noMask ls)
+unfolding yesMask noMask
+rising-apart n last [] e = record { avoids = λ v. omega (arith, bit-zero v) }
+rising-apart n last (l ∷ ls) e = apart (first n last l ls e) (λ h. rising-apart n (variable l) ls h)
+  where
+    apart : First n last l ls → (rising n (variable l) ls ≡ true → Apart (yesMask ls) (noMask ls)) → Apart (union (yesBit l) (yesMask ls)) (union (noBit l) (noMask ls))
+    apart r ih = record { avoids = λ v. go v (decLt v (variable l)) }
+      where
+        go : (v : ℕ) → Dec (v < variable l) → bit (union (yesBit l) (yesMask ls)) v + bit (union (noBit l) (noMask ls)) v ≤ 1
+        go v (yes h) =
+            let low = rising-low n (variable l) ls v (r .rest) h in
+            omega (arith, bit-union (yesBit l) (yesMask ls) v, bit-union (noBit l) (noMask ls) v, one-sign l v, low .0, low .1)
+        go v (no h) =
+            let high = high-bits l v (omega arith) in
+            omega (arith, bit-union (yesBit l) (yesMask ls) v, bit-union (noBit l) (noMask ls) v, high .0, high .1, ih (r .rest) .avoids v)
+
+-- a set below 2 ^ n is within the first n variables
+below-full : (n m : ℕ) → m < 2 ^ n → Within m (full n)
+below-full n m h = record { keeps = λ v. go v (decLt v n) }
+  where
+    go : (v : ℕ) → Dec (v < n) → bit m v ≤ bit (full n) v
+    go v (yes l) = omega (arith, bit-le m v, bit-full n v l)
+    go v (no l) = by-cases (ℕ-discrete (bit m v) 1) (λ e. absurd (omega (arith, member-lt n m v e h))) (λ d. omega (arith, bit-le m v))
+
+-- a cost in the table is at most 999
+cost-bound : (cs : List Cost) → Each GoodCost cs → (k v column : ℕ) → costOf (map row cs ++ replicate k (0 ∷ 0 ∷ [])) v column ≤ maxCost
+unfolding costOf
+cost-bound [] e zero v column = omega arith
+cost-bound [] e (suc k) zero zero = omega arith
+cost-bound [] e (suc k) zero (suc zero) = omega arith
+cost-bound [] e (suc k) zero (suc (suc column)) = omega arith
+cost-bound [] e (suc k) (suc v) column = cost-bound [] e k v column
+cost-bound (c ∷ cs) e k zero zero = e .0 .yes-most
+cost-bound (c ∷ cs) e k zero (suc zero) = e .0 .no-most
+cost-bound (c ∷ cs) e k zero (suc (suc column)) = omega arith
+cost-bound (c ∷ cs) e k (suc v) column = cost-bound cs (e .1) k v column
+
+-- ---- the problem of an accepted book
+
+all-of : (n : ℕ) (rs : List (List Literal)) → Each (Rises n) rs → AllOf n rs
+all-of n [] e = tt
+all-of n (r ∷ rs) e = (rising-of n 0 r (e .0 .rises), all-of n rs (e .1))
+
+module _ {b : OrderBook} (w : WellFormed b) where
+  facts-of : Of (b .header .choices) (b .facts)
+  facts-of = rising-of _ 0 (b .facts) (w .facts-rise .rises)
+
+  pub proper-book : ProperProblem (problemOf b)
+  unfolding problemOf table padded
+  proper-book = record {
+    few-variables = w .few-variables;
+    few-choices = le-trans (full-lt (b .header .choices)) (pow-mono (w .few-choices));
+    choices-below = le-trans (full-lt (b .header .choices)) (pow-mono (w .choices-among));
+    few-rules = omega (arith, w .rule-count, w .few-rules);
+    rules-over = all-of _ (b .rules) (w .rules-rise);
+    facts-proper = rising-proper _ 0 (b .facts) (w .facts-rise .rises);
+    facts-apart = rising-apart _ 0 (b .facts) (w .facts-rise .rises);
+    yes-facts = below-full _ _ (yesMask-lt _ (b .facts) facts-of);
+    no-facts = below-full _ _ (noMask-lt _ (b .facts) facts-of);
+    cheap = cost-bound (b .costs) (w .costs-good) (maxChoices - length (map row (b .costs)));
+  }
+
+  -- the arrays have room
+  padded-length : (mask : List Literal → ℕ) → length (padded 0 maxRules (map mask (b .rules))) ≡ maxRules
+  unfolding padded
+  padded-length mask =
+      length-append (map mask (b .rules)) _
+      ∙ rw (length-replicate {A = ℕ} (maxRules - length (map mask (b .rules))) 0) (omega (arith, length-map (b .rules) mask, w .rule-count, w .few-rules))
+
+  pub room : (mask : List Literal → ℕ) → length (widenedTo (padded 0 maxRules (map mask (b .rules)))) ≡ mostRules
+  room mask = length-append (padded 0 maxRules (map mask (b .rules))) _ ∙ rw (padded-length mask) refl
+
+  -- up to the last rule they hold the masks of the rules
+  pub masks-kept : (mask : List Literal → ℕ) → take (b .header .rules) (widenedTo (padded 0 maxRules (map mask (b .rules)))) ≡ map mask (b .rules)
+  unfolding padded
+  masks-kept mask =
+      rw (append-assoc (map mask (b .rules)) (replicate (maxRules - length (map mask (b .rules))) 0) (replicate (mostRules - maxRules) 0))
+      (take-at (map mask (b .rules)) _ (b .header .rules) (length-map (b .rules) mask ∙ w .rule-count))
+
+-- ---- the search of a proper problem
+
+masks-below : (n : ℕ) (mask : List Literal → ℕ) → ((ls : List Literal) → Of n ls → mask ls < 2 ^ n) → (rs : List (List Literal)) → AllOf n rs → Masks n (map mask rs)
+masks-below n mask h [] e = masks-none n
+masks-below n mask h (r ∷ rs) e = masks-more (h r (e .0)) (masks-below n mask h rs (e .1))
+
+module _ {p : Problem} (w : ProperProblem p) where
+  within-below : (m : ℕ) → Within m (p .choices) → m < 2 ^ p .variables
+  within-below m h = omega (arith, within-le m (p .choices) h, w .choices-below)
+
+  pub proper-posed : Posed (p .variables) (map yesMask (p .rules)) (map noMask (p .rules)) (given p .yes) (given p .no)
+  proper-posed = record {
+    small = omega (arith, w .few-variables);
+    paired = length-map (p .rules) yesMask ∙ sym (length-map (p .rules) noMask);
+    yes-masks = masks-below _ yesMask (yesMask-lt _) (p .rules) (w .rules-over);
+    no-masks = masks-below _ noMask (noMask-lt _) (p .rules) (w .rules-over);
+    on-below = within-below _ (w .yes-facts);
+    off-below = within-below _ (w .no-facts);
+    apart = w .facts-apart;
+  }

@@ -1,0 +1,2 @@
+mod WidenLaws
+pub mod BookLaws

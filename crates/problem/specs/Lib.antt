@@ -1,0 +1,4 @@
+pub mod Limits
+pub mod Problem
+pub mod Masked
+pub mod Proper

@@ -1,0 +1,25 @@
+-- A problem as the code holds it: each rule as two masks, in arrays with room for the most rules.
+use mathlib.Core.List.{List, _++_}
+use Prim.Native.Nat.{ℕ, _-_}
+use lib.ListN.{replicate}
+use Rattle.sets.specs.Sets.{full}
+use Rattle.book.specs.Limits.{maxRules}
+use Rattle.book.specs.declared.Book.{Book}
+use Rattle.problem.specs.Limits.{mostRules}
+use Rattle.problem.specs.declared.MaskedProblem.{MaskedProblem}
+
+-- The masks of a book's rules, and zeros after them.
+abbrev pub widenedTo : List ℕ → List ℕ
+widenedTo masks = masks ++ replicate (mostRules - maxRules) 0
+
+-- What is made of a book as it is kept.
+abbrev pub maskedFrom : Book → MaskedProblem
+maskedFrom b =
+    record {
+      variables = b .variables;
+      rules = b .rules;
+      yes = widenedTo (b .yes);
+      no = widenedTo (b .no);
+      choices = full (b .choices);
+      facts = record { yes = b .«facts_yes»; no = b .«facts_no» };
+    }
