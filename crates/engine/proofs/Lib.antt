@@ -2,4 +2,4 @@ mod NineLaws
 mod ProblemLaws
 mod AnswerLaws
 mod StepLaws
-mod LogLaws
+pub mod LogLaws

@@ -13,7 +13,7 @@ use Rattle.literals.specs.declared.LiteralSet.{LiteralSet}
 use Rattle.book.specs.Limits.{maxLog}
 use Rattle.book.specs.Format.{Read, value, refused, OrderBook, readBook}
 use Rattle.book.specs.Answer.{kept, table}
-use Rattle.book.proofs.WellFormed.{WellFormed}
+use Rattle.book.proofs.WellFormed.{WellFormed, well-formed}
 use Rattle.problem.specs.Problem.{Problem, problemOf, given}
 use Rattle.problem.specs.Masked.{maskedFrom}
 use Rattle.problem.specs.declared.MaskedProblem.{MaskedProblem}
@@ -21,16 +21,16 @@ use Rattle.problem.proofs.BookLaws.{proper-book}
 use Rattle.consequence.specs.Meaning.{models, hasModel, consequenceOf, Theory, theoryOf, contradicts}
 use Rattle.consequence.specs.Laws.Problems.{no-filling}
 use Rattle.step.specs.Meaning.{asking, questionOf, Step}
-use Rattle.log.specs.Format.{logBytes}
+use Rattle.log.specs.Format.{Log, logBytes, isLog, readLog}
 use Rattle.log.specs.Meaning.{Run, done, stuck, runOf, runFor, logOf}
 use Rattle.log.specs.Demand3.{Explained}
 use Rattle.log.specs.Contracts.{totalOf, WrittenAs}
-use Rattle.log.specs.Laws.Explains.{explained, not-stuck-for}
+use Rattle.log.specs.Laws.Explains.{explained, reads-back, not-stuck-for}
 use Rattle.log.specs.Laws.Growth as growth
 use Rattle.log.specs.declared.Written.{Written}
 use Rattle.log.specs.declared.Written.the-variants as Written
 use Rattle.engine.specs.Calls.{withModel, NoModelIn, NineExactly, LogOutcome, logged, refusedWith, ofRun, logOutcome, logAnswer, bufferAfter, LoggedAs, Explains, LogCall}
-use Rattle.engine.specs.Contracts.{theoryIn, forcedIn, Loggable, Logging, logIn}
+use Rattle.engine.specs.Contracts.{theoryIn, forcedIn, Loggable, LogReady, logIn}
 use Rattle.engine.specs.declared.LogAnswer.{LogAnswer}
 use Rattle.engine.specs.declared.LogAnswer.the-variants as LogAnswer
 use Rattle.engine.proofs.NineLaws.{nine-exactly}
@@ -61,7 +61,7 @@ module _ (run : Run) {before after : List ℕ} {r : Written} where
 -- ---- what the log asks
 
 module _ (p : MaskedProblem) (costs : List (List ℕ)) (w : Loggable p costs) (some : contradicts (theoryIn p) (p .facts .yes) (p .facts .no) ≡ false) where
-  pub logging-of : Logging p costs (forcedIn p)
+  pub logging-of : LogReady p costs (forcedIn p)
   logging-of =
       let below = w .steppable .searchable .choices-below in
       record {
@@ -115,6 +115,27 @@ module _ {b : OrderBook} (w : WellFormed b) (end : ℕ) {before after : List ℕ
       room false false t m run e l = explains-none b end (λ f x y k. no-filling (problemOf b) m .none f x y) l
       room false true t m stuck e l = explains-none b end (λ f x y k. not-stuck-for (proper-book w) m e) l
       room false true t m (done ss) e l = explains-done b end ss (explained (proper-book w) m ss e) l
+
+-- ---- the bytes of the log that the call comes to are read as that log
+
+pub outcome-reads : (s : List ℕ) (room : ℕ) {l : Log} → logOutcome room (readBook s) ≡ logged l → (choices : ℕ) × (readLog choices (logBytes l) ≡ isLog l)
+unfolding logOutcome withModel ofRun
+outcome-reads s room {l} o = go (readBook s) refl o
+  where
+    at-run : (p : Problem) (run : Run) → ((ss : List Step) → run ≡ done ss → readLog (p .choices) (logBytes (logOf ss)) ≡ isLog (logOf ss)) → ofRun run ≡ logged l
+        → (choices : ℕ) × (readLog choices (logBytes l) ≡ isLog l)
+    at-run p (done ss) h d = let same : logOf ss ≡ l = cc in (p .choices, rw same at (h ss refl))
+    at-run p stuck h d = let z : _≡_ {A = ℕ} 0 1 = cc in absurd (omega arith)
+
+    at-book : (b : OrderBook) → WellFormed b → (t h : Bool) → hasModel (problemOf b) ≡ h → cond t (refusedWith 8 0) (cond h (ofRun (runFor (problemOf b))) (refusedWith 9 0)) ≡ logged l
+        → (choices : ℕ) × (readLog choices (logBytes l) ≡ isLog l)
+    at-book b w true h m d = let z : _≡_ {A = ℕ} 0 1 = cc in absurd (omega arith)
+    at-book b w false false m d = let z : _≡_ {A = ℕ} 0 1 = cc in absurd (omega arith)
+    at-book b w false true m d = at-run (problemOf b) (runFor (problemOf b)) (λ ss e. reads-back (proper-book w) m ss e) d
+
+    go : (m : Read OrderBook) → readBook s ≡ m → logOutcome room m ≡ logged l → (choices : ℕ) × (readLog choices (logBytes l) ≡ isLog l)
+    go (refused n p) e d = let z : _≡_ {A = ℕ} 0 1 = cc in absurd (omega arith)
+    go (value b end) e d = at-book b (well-formed s e) (ltb room maxLog) (hasModel (problemOf b)) refl d
 
 -- ---- 9
 

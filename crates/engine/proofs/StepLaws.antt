@@ -21,13 +21,13 @@ use Rattle.problem.specs.declared.MaskedProblem.{MaskedProblem}
 use Rattle.consequence.specs.Meaning.{hasModel, consequenceOf, Theory, theoryOf, contradicts}
 use Rattle.consequence.specs.Laws.Masks.{of-theory}
 use Rattle.step.specs.Meaning.{asking, questionOf, Answer, nothingLeft, noCandidate, step, stepOf}
-use Rattle.step.specs.Contracts.{Asked, answer}
+use Rattle.step.specs.Contracts.{Asked, nextOf}
 use Rattle.step.specs.declared.Next.{Next}
 use Rattle.step.specs.declared.Next.the-variants as Next
 use Rattle.log.specs.Contracts.{ForcedBy}
 use Rattle.log.specs.Laws.Growth as growth
 use Rattle.engine.specs.Calls.{withModel, between, stepSays, stepFor, stepAnswer, StepCall}
-use Rattle.engine.specs.Contracts.{yesIn, noIn, theoryIn, forcedIn, FoundForced, stepQuestion, stepIn, Steppable, Stepping}
+use Rattle.engine.specs.Contracts.{yesIn, noIn, theoryIn, forcedIn, FoundForced, stepQuestion, stepIn, Steppable, StepReady}
 use Rattle.engine.specs.declared.ConsequenceAnswer.{ConsequenceAnswer}
 use Rattle.engine.specs.declared.ConsequenceAnswer.the-variants as ConsequenceAnswer
 use Rattle.engine.specs.declared.StepAnswer.{StepAnswer}
@@ -47,29 +47,29 @@ module _ {x r : Bool} (e : r ≡ x) where
 -- ---- the answer of `step::next_step`, passed on
 
 module _ (a : Answer) {r : Next} where
-  pub says-step : {g : ℤ} {x y : LiteralSet} {k : ℕ} → r ≡ answer a → r ≡ Next.Step g x y k → StepAnswer.Step g x y k ≡ stepSays a
+  pub says-step : {g : ℤ} {x y : LiteralSet} {k : ℕ} → r ≡ nextOf a → r ≡ Next.Step g x y k → StepAnswer.Step g x y k ≡ stepSays a
   unfolding stepSays
   says-step {g} {x} {y} {k} e f = go a e
     where
-      go : (a : Answer) → r ≡ answer a → StepAnswer.Step g x y k ≡ stepSays a
+      go : (a : Answer) → r ≡ nextOf a → StepAnswer.Step g x y k ≡ stepSays a
       go nothingLeft e = let z : _≡_ {A = ℕ} 0 1 = cc in absurd (omega arith)
       go noCandidate e = let z : _≡_ {A = ℕ} 0 1 = cc in absurd (omega arith)
       go (step s) e = cc
 
-  pub says-nothing : r ≡ answer a → r ≡ Next.NothingLeft → StepAnswer.NothingLeft ≡ stepSays a
+  pub says-nothing : r ≡ nextOf a → r ≡ Next.NothingLeft → StepAnswer.NothingLeft ≡ stepSays a
   unfolding stepSays
   says-nothing e f = go a e
     where
-      go : (a : Answer) → r ≡ answer a → StepAnswer.NothingLeft ≡ stepSays a
+      go : (a : Answer) → r ≡ nextOf a → StepAnswer.NothingLeft ≡ stepSays a
       go nothingLeft e = refl
       go noCandidate e = let z : _≡_ {A = ℕ} 0 1 = cc in absurd (omega arith)
       go (step s) e = let z : _≡_ {A = ℕ} 0 1 = cc in absurd (omega arith)
 
-  pub says-none : r ≡ answer a → r ≡ Next.NoCandidate → StepAnswer.Refused 11 0 ≡ stepSays a
+  pub says-none : r ≡ nextOf a → r ≡ Next.NoCandidate → StepAnswer.Refused 11 0 ≡ stepSays a
   unfolding stepSays
   says-none e f = go a e
     where
-      go : (a : Answer) → r ≡ answer a → StepAnswer.Refused 11 0 ≡ stepSays a
+      go : (a : Answer) → r ≡ nextOf a → StepAnswer.Refused 11 0 ≡ stepSays a
       go nothingLeft e = let z : _≡_ {A = ℕ} 0 1 = cc in absurd (omega arith)
       go noCandidate e = refl
       go (step s) e = let z : _≡_ {A = ℕ} 0 1 = cc in absurd (omega arith)
@@ -137,7 +137,7 @@ module _ (p : MaskedProblem) (costs : List (List ℕ)) (w : Steppable p costs) (
         cheap = w .cheap;
       }
 
-  pub stepping : (known : LiteralSet) → between (p .facts) known (forcedIn p) ≡ true → Stepping p costs (forcedIn p) known
+  pub stepping : (known : LiteralSet) → between (p .facts) known (forcedIn p) ≡ true → StepReady p costs (forcedIn p) known
   stepping known b = let l = lies _ _ _ b in record { searchable = w .searchable; asked = asked-of known (l .high-yes) (l .high-no) }
 
 -- ---- a book

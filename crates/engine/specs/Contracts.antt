@@ -52,19 +52,19 @@ pub record Searchable (p : MaskedProblem) : Type 0 where
 
 -- ---- one model, and the consequence
 
-abbrev pub ModelIn : MaskedProblem → ModelAnswer → Type 0
-ModelIn p (ModelAnswer.Model m) = Model (p .variables) (yesIn p) (noIn p) (p .facts .yes) (p .facts .no) m
-ModelIn p (ModelAnswer.Refused number place) = (number ≡ 9) × (place ≡ 0) × NoModel (p .variables) (yesIn p) (noIn p) (p .facts .yes) (p .facts .no)
+abbrev pub ModelSaid : MaskedProblem → ModelAnswer → Type 0
+ModelSaid p (ModelAnswer.Model m) = Model (p .variables) (yesIn p) (noIn p) (p .facts .yes) (p .facts .no) m
+ModelSaid p (ModelAnswer.Refused number place) = (number ≡ 9) × (place ≡ 0) × NoModel (p .variables) (yesIn p) (noIn p) (p .facts .yes) (p .facts .no)
 
 pub record FoundModel (p : MaskedProblem) (r : ModelAnswer) : Type 0 where
-  pub said : ModelIn p r
+  pub said : ModelSaid p r
 
-abbrev pub ForcedIn : MaskedProblem → ConsequenceAnswer → Type 0
-ForcedIn p (ConsequenceAnswer.Forced r) = (contradicts (theoryIn p) (p .facts .yes) (p .facts .no) ≡ false) × (r ≡ forcedIn p)
-ForcedIn p (ConsequenceAnswer.Refused number place) = (number ≡ 9) × (place ≡ 0) × (contradicts (theoryIn p) (p .facts .yes) (p .facts .no) ≡ true)
+abbrev pub ForcedSaid : MaskedProblem → ConsequenceAnswer → Type 0
+ForcedSaid p (ConsequenceAnswer.Forced r) = (contradicts (theoryIn p) (p .facts .yes) (p .facts .no) ≡ false) × (r ≡ forcedIn p)
+ForcedSaid p (ConsequenceAnswer.Refused number place) = (number ≡ 9) × (place ≡ 0) × (contradicts (theoryIn p) (p .facts .yes) (p .facts .no) ≡ true)
 
 pub record FoundForced (p : MaskedProblem) (r : ConsequenceAnswer) : Type 0 where
-  pub said : ForcedIn p r
+  pub said : ForcedSaid p r
 
 -- ---- the next step
 
@@ -85,7 +85,7 @@ pub record Steppable (p : MaskedProblem) (costs : List (List ℕ)) : Type 0 wher
   pub rows : p .choices < 2 ^ maxChoices
   pub cheap : (v column : ℕ) → costOf costs v column ≤ maxCost
 
-pub record Stepping (p : MaskedProblem) (costs : List (List ℕ)) (forced known : LiteralSet) : Type 0 where
+pub record StepReady (p : MaskedProblem) (costs : List (List ℕ)) (forced known : LiteralSet) : Type 0 where
   pub searchable : Searchable p
   pub asked : Asked (p .variables) (yesIn p) (noIn p) (p .choices) costs forced known
 
@@ -105,6 +105,6 @@ pub record Loggable (p : MaskedProblem) (costs : List (List ℕ)) : Type 0 where
   pub yes-facts : Within (p .facts .yes) (p .choices)
   pub no-facts : Within (p .facts .no) (p .choices)
 
-pub record Logging (p : MaskedProblem) (costs : List (List ℕ)) (forced : LiteralSet) : Type 0 where
+pub record LogReady (p : MaskedProblem) (costs : List (List ℕ)) (forced : LiteralSet) : Type 0 where
   pub searchable : Searchable p
   pub asked : LogAsked (p .variables) (yesIn p) (noIn p) (p .choices) costs forced (p .facts)

@@ -7,7 +7,7 @@ ghost use Rattle.book.specs.Format.{readBook};
 ghost use Rattle.book.specs.Answer.{bookAnswer, tableAnswer};
 ghost use Rattle.log.specs.Meaning.{runOf};
 ghost use Rattle.engine.specs.Calls.{ModelCall, ConsequenceCall, StepCall, between, stepSays, LogCall, LoggedAs, ofRun};
-ghost use Rattle.engine.specs.Contracts.{Searchable, FoundModel, FoundForced, Steppable, stepIn, stepQuestion, Stepping, Loggable, Logging, logIn, logQuestion};
+ghost use Rattle.engine.specs.Contracts.{Searchable, FoundModel, FoundForced, Steppable, stepIn, stepQuestion, StepReady, Loggable, LogReady, logIn, logQuestion};
 use book::Book;
 use book::Reading;
 use consequence::Consequence;
@@ -210,7 +210,7 @@ fn take_step(
     forced: LiteralSet,
     known: LiteralSet,
 ) -> StepAnswer
-    requires { ⌜ Stepping p costs forced known ⌝ }
+    requires { ⌜ StepReady p costs forced known ⌝ }
     ensures { λ r. ⌜ r ≡ stepSays (stepQuestion p costs forced known) ⌝ }
 {
     let yes = p.yes;
@@ -286,7 +286,7 @@ fn write_log(
     forced: LiteralSet,
     buffer: &mut [u8],
 ) -> LogAnswer
-    requires { ⌜ Logging p costs forced ⌝ }
+    requires { ⌜ LogReady p costs forced ⌝ }
     requires { ⌜ maxLog ≤ length (now buffer) ⌝ }
     ensures { λ r. ⌜ LoggedAs (ofRun (runOf (logQuestion p costs forced))) (now (buffer .entry)) (now (buffer .exit)) r ⌝ }
 {

@@ -15,20 +15,20 @@ use Rattle.step.specs.declared.Next.{Next}
 use Rattle.step.specs.declared.Next.the-variants as Next
 use Rattle.log.specs.Format.{okBytes, logBytes}
 use Rattle.log.specs.Meaning.{Run, done, stuck}
-use Rattle.log.specs.Contracts.{Put, Ended, Ran, BuiltAs, WrittenAs, LogWritten, totalOf}
+use Rattle.log.specs.Contracts.{Put, LogEnded, Ran, BuiltAs, WrittenAs, LogWritten, totalOf}
 use Rattle.log.specs.declared.Built.{Built}
 use Rattle.log.specs.declared.Written.{Written}
 use Rattle.log.specs.declared.Written.the-variants as Written
 
 module _ (bytes : List ℕ) (at steps total : ℕ) where
   pub ended-ok : (next : Next) (out : List ℕ) (end : ℕ) → next ≡ Next.NothingLeft → Put bytes at (okBytes steps total) out end
-      → Ended bytes at steps total next (record { bytes = out; length = end; steps = steps; total = total; stuck = false })
+      → LogEnded bytes at steps total next (record { bytes = out; length = end; steps = steps; total = total; stuck = false })
   ended-ok next out end e p = rw e (record { said = (refl, p, refl, refl) })
 
-  pub ended-none : (next : Next) (r : Built) → next ≡ Next.NoCandidate → r .stuck ≡ true → Ended bytes at steps total next r
+  pub ended-none : (next : Next) (r : Built) → next ≡ Next.NoCandidate → r .stuck ≡ true → LogEnded bytes at steps total next r
   ended-none next r e s = rw e (record { said = s })
 
-  pub ended-step : (next : Next) (r : Built) {g : lib.IntN.ℤ} {x y : LiteralSet} {k : ℕ} → next ≡ Next.Step g x y k → r .stuck ≡ true → Ended bytes at steps total next r
+  pub ended-step : (next : Next) (r : Built) {g : lib.IntN.ℤ} {x y : LiteralSet} {k : ℕ} → next ≡ Next.Step g x y k → r .stuck ≡ true → LogEnded bytes at steps total next r
   ended-step next r e s = rw e (record { said = s })
 
 -- ---- copying

@@ -2,4 +2,4 @@ mod EndLaws
 mod ListLaws
 mod RecordLaws
 pub mod RunLaws
-mod StoreLaws
+pub mod StoreLaws

@@ -19,7 +19,7 @@ use Rattle.literals.specs.declared.LiteralSet.{LiteralSet}
 use Rattle.book.specs.Limits.{maxChoices, maxLog}
 use Rattle.consequence.specs.Contracts.{maskTheory}
 use Rattle.step.specs.Meaning.{Question, Step, Answer, nothingLeft, noCandidate, step, stepOf, literalOf, goals, yesGoals, noGoals}
-use Rattle.step.specs.Contracts.{Asked, question, answer}
+use Rattle.step.specs.Contracts.{Asked, maskQuestion, nextOf}
 use Rattle.step.specs.Laws.TheStep.{asked-sound}
 use Rattle.step.specs.IsStep.{IsStep}
 use Rattle.step.specs.Theorems.{step-is}
@@ -27,7 +27,7 @@ use Rattle.step.specs.declared.Next.{Next}
 use Rattle.step.specs.declared.Next.the-variants as Next
 use Rattle.log.specs.Format.{recordsBytes, okBytes, logBytes}
 use Rattle.log.specs.Meaning.{Run, done, stuck, stepThen, withNew, runFrom, runOf, recordOf, costsWritten, logOf}
-use Rattle.log.specs.Contracts.{Put, putStep, stepBytes, stepsBytes, totalOf, LogAsked, Ended, Ran, BuiltAs}
+use Rattle.log.specs.Contracts.{Put, putStep, stepBytes, stepsBytes, totalOf, LogAsked, LogEnded, Ran, BuiltAs}
 use Rattle.log.specs.Laws.Growth as growth
 use Rattle.log.specs.declared.Built.{Built}
 use Rattle.log.proofs.ListLaws.{list-length}
@@ -64,12 +64,12 @@ total-snoc (x ∷ ss) s = omega (arith, total-snoc ss s)
 
 -- ---- the next step's answer, taken back
 
-pub answered-step : (a : Answer) {g : ℤ} {x y : LiteralSet} {k : ℕ} {r : Next} → r ≡ answer a → r ≡ Next.Step g x y k → a ≡ step (putStep g x y k)
+pub answered-step : (a : Answer) {g : ℤ} {x y : LiteralSet} {k : ℕ} {r : Next} → r ≡ nextOf a → r ≡ Next.Step g x y k → a ≡ step (putStep g x y k)
 answered-step nothingLeft e f = let z : _≡_ {A = ℕ} 0 1 = cc in absurd (omega arith)
 answered-step noCandidate e f = let z : _≡_ {A = ℕ} 0 1 = cc in absurd (omega arith)
 answered-step (step s) {g} {x} {y} {k} e f = same (sym e ∙ f)
   where
-    same : answer (step s) ≡ Next.Step g x y k → step s ≡ step (putStep g x y k)
+    same : nextOf (step s) ≡ Next.Step g x y k → step s ≡ step (putStep g x y k)
     same h =
         let a : s .goal ≡ g = cc in
         let b : record { yes = s .reasons-on; no = s .reasons-off } ≡ x = cc in
@@ -80,9 +80,9 @@ answered-step (step s) {g} {x} {y} {k} e f = same (sym e ∙ f)
 -- ---- the log
 
 module _ {n : ℕ} {ys ns : List ℕ} {ch : ℕ} {table : List (List ℕ)} {c facts : LiteralSet} (lg : LogAsked n ys ns ch table c facts) where
-  module _ {known : LiteralSet} (a : Asked n ys ns ch table c known) {s : Step} (e : stepOf (question n ys ns ch table c known) ≡ step s) where
-    is : IsStep (question n ys ns ch table c known) s
-    is = step-is (question n ys ns ch table c known) (asked-sound a) s e
+  module _ {known : LiteralSet} (a : Asked n ys ns ch table c known) {s : Step} (e : stepOf (maskQuestion n ys ns ch table c known) ≡ step s) where
+    is : IsStep (maskQuestion n ys ns ch table c known) s
+    is = step-is (maskQuestion n ys ns ch table c known) (asked-sound a) s e
 
     new-yes-within : Within (s .new-on) (c .yes)
     new-yes-within = growth.new-yes-within (lg .forced) (asked-sound a) e
@@ -106,7 +106,7 @@ module _ {n : ℕ} {ys ns : List ℕ} {ch : ℕ} {table : List (List ℕ)} {c fa
       cheap = a .cheap;
     }
 
-    pub goals-fewer : count (goals (question n ys ns ch table c (record { yes = union (known .yes) (s .new-on); no = union (known .no) (s .new-off) }))) < count (goals (question n ys ns ch table c known))
+    pub goals-fewer : count (goals (maskQuestion n ys ns ch table c (record { yes = union (known .yes) (s .new-on); no = union (known .no) (s .new-off) }))) < count (goals (maskQuestion n ys ns ch table c known))
     goals-fewer = growth.goals-fewer (lg .forced) (asked-sound a) e
 
     -- ---- how long the record is
@@ -147,17 +147,17 @@ module _ {n : ℕ} {ys ns : List ℕ} {ch : ℕ} {table : List (List ℕ)} {c fa
   pub record Logging (bytes : List ℕ) (at : ℕ) (known : LiteralSet) (steps total : ℕ) : Type 0 where
     pub taken : List Step
     pub turns : ℕ
-    pub so-far : runOf (question n ys ns ch table c facts) ≡ stepsThen taken (runFrom turns (question n ys ns ch table c known))
-    pub enough : count (goals (question n ys ns ch table c known)) < turns
+    pub so-far : runOf (maskQuestion n ys ns ch table c facts) ≡ stepsThen taken (runFrom turns (maskQuestion n ys ns ch table c known))
+    pub enough : count (goals (maskQuestion n ys ns ch table c known)) < turns
     pub put : Put (replicate maxLog 0) 0 (stepsBytes taken) bytes at
     pub counted : steps ≡ length taken
     pub summed : total ≡ totalOf taken
     pub asked : Asked n ys ns ch table c known
-    pub left : steps + count (goals (question n ys ns ch table c known)) ≤ maxChoices
+    pub left : steps + count (goals (maskQuestion n ys ns ch table c known)) ≤ maxChoices
     pub short : at ≤ (maxChoices + 7) * steps
     pub cheap : total ≤ 65535 * steps
 
-  goals-few : (known : LiteralSet) → Asked n ys ns ch table c known → count (goals (question n ys ns ch table c known)) ≤ maxChoices
+  goals-few : (known : LiteralSet) → Asked n ys ns ch table c known → count (goals (maskQuestion n ys ns ch table c known)) ≤ maxChoices
   unfolding goals yesGoals noGoals
   goals-few known a =
       let m = union (diff (c .yes) (known .yes)) (diff (c .no) (known .no)) in
@@ -168,7 +168,7 @@ module _ {n : ℕ} {ys ns : List ℕ} {ch : ℕ} {table : List (List ℕ)} {c fa
   unfolding runOf recordsBytes costsWritten
   logging-none = record {
     taken = [];
-    turns = suc (count (goals (question n ys ns ch table c facts)));
+    turns = suc (count (goals (maskQuestion n ys ns ch table c facts)));
     so-far = refl;
     enough = omega arith;
     put = put-none _ 0;
@@ -187,7 +187,7 @@ module _ {n : ℕ} {ys ns : List ℕ} {ch : ℕ} {table : List (List ℕ)} {c fa
     pub bytes-room : length bytes ≡ maxLog
     bytes-room = put-length _ (w .put) ∙ length-replicate {A = ℕ} maxLog 0
 
-    module _ {s : Step} (e : stepOf (question n ys ns ch table c known) ≡ step s) where
+    module _ {s : Step} (e : stepOf (maskQuestion n ys ns ch table c known) ≡ step s) where
       pub step-open : steps < maxChoices
       step-open = omega (arith, w .left, goals-fewer (w .asked) e)
 
@@ -211,26 +211,26 @@ module _ {n : ℕ} {ys ns : List ℕ} {ch : ℕ} {table : List (List ℕ)} {c fa
         cheap = omega (arith, w .cheap);
       })
         where
-          one : (t : ℕ) → w .turns ≡ suc t → runFrom (w .turns) (question n ys ns ch table c known)
-              ≡ stepThen s (runFrom t (question n ys ns ch table c (record { yes = union (known .yes) (s .new-on); no = union (known .no) (s .new-off) })))
+          one : (t : ℕ) → w .turns ≡ suc t → runFrom (w .turns) (maskQuestion n ys ns ch table c known)
+              ≡ stepThen s (runFrom t (maskQuestion n ys ns ch table c (record { yes = union (known .yes) (s .new-on); no = union (known .no) (s .new-off) })))
           one t q = rw (q, e, runFrom) refl
 
     pub end-room : at + length (okBytes steps total) ≤ length bytes
     end-room = omega (arith, ok-length steps total, bytes-room, w .short, w .left)
 
     -- the end: nothing is left, or no candidate is
-    last-left : (t : ℕ) → w .turns ≡ suc t → stepOf (question n ys ns ch table c known) ≡ nothingLeft → runFrom (w .turns) (question n ys ns ch table c known) ≡ done []
+    last-left : (t : ℕ) → w .turns ≡ suc t → stepOf (maskQuestion n ys ns ch table c known) ≡ nothingLeft → runFrom (w .turns) (maskQuestion n ys ns ch table c known) ≡ done []
     unfolding runFrom
     last-left t q e = rw (q, e, runFrom) refl
 
-    last-stuck : (t : ℕ) → w .turns ≡ suc t → stepOf (question n ys ns ch table c known) ≡ noCandidate → runFrom (w .turns) (question n ys ns ch table c known) ≡ stuck
+    last-stuck : (t : ℕ) → w .turns ≡ suc t → stepOf (maskQuestion n ys ns ch table c known) ≡ noCandidate → runFrom (w .turns) (maskQuestion n ys ns ch table c known) ≡ stuck
     unfolding runFrom
     last-stuck t q e = rw (q, e, runFrom) refl
 
-    run-done : stepOf (question n ys ns ch table c known) ≡ nothingLeft → runOf (question n ys ns ch table c facts) ≡ done (w .taken)
+    run-done : stepOf (maskQuestion n ys ns ch table c known) ≡ nothingLeft → runOf (maskQuestion n ys ns ch table c facts) ≡ done (w .taken)
     run-done e = w .so-far ∙ ap (stepsThen (w .taken)) (last-left _ turn e) ∙ stepThen-done (w .taken)
 
-    run-stuck : stepOf (question n ys ns ch table c known) ≡ noCandidate → runOf (question n ys ns ch table c facts) ≡ stuck
+    run-stuck : stepOf (maskQuestion n ys ns ch table c known) ≡ noCandidate → runOf (maskQuestion n ys ns ch table c facts) ≡ stuck
     run-stuck e = w .so-far ∙ ap (stepsThen (w .taken)) (last-stuck _ turn e) ∙ stepThen-stuck (w .taken)
 
     built : (r : Built) → r .stuck ≡ false → Put bytes at (okBytes steps total) (r .bytes) (r .length) → r .steps ≡ steps → r .total ≡ total → BuiltAs (w .taken) r
@@ -251,11 +251,11 @@ module _ {n : ℕ} {ys ns : List ℕ} {ch : ℕ} {table : List (List ℕ)} {c fa
         }
 
     -- what is built where no step follows
-    pub logging-ended : (next : Next) (r : Built) → next ≡ answer (stepOf (question n ys ns ch table c known)) → ((g : ℤ) (x y : LiteralSet) (k : ℕ) → next ≡ Next.Step g x y k → ⊥)
-        → Ended bytes at steps total next r → Ran (runOf (question n ys ns ch table c facts)) r
-    logging-ended next r e no-step d = go (stepOf (question n ys ns ch table c known)) refl e d
+    pub logging-ended : (next : Next) (r : Built) → next ≡ nextOf (stepOf (maskQuestion n ys ns ch table c known)) → ((g : ℤ) (x y : LiteralSet) (k : ℕ) → next ≡ Next.Step g x y k → ⊥)
+        → LogEnded bytes at steps total next r → Ran (runOf (maskQuestion n ys ns ch table c facts)) r
+    logging-ended next r e no-step d = go (stepOf (maskQuestion n ys ns ch table c known)) refl e d
       where
-        go : (o : Answer) → stepOf (question n ys ns ch table c known) ≡ o → next ≡ answer o → Ended bytes at steps total next r → Ran (runOf (question n ys ns ch table c facts)) r
+        go : (o : Answer) → stepOf (maskQuestion n ys ns ch table c known) ≡ o → next ≡ nextOf o → LogEnded bytes at steps total next r → Ran (runOf (maskQuestion n ys ns ch table c facts)) r
         go nothingLeft q f d = let t = (rw f at d) .said in rw (run-done q) (record { said = built r (t .0) (t .1) (t .2) (t .3) })
         go noCandidate q f d = rw (run-stuck q) (record { said = (rw f at d) .said })
         go (step s) q f d = absurd (no-step _ _ _ _ f)

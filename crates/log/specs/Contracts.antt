@@ -60,13 +60,13 @@ pub record LogAsked (n : ℕ) (ys ns : List ℕ) (ch : ℕ) (table : List (List 
   pub forced : ForcedBy (maskTheory n ys ns ch) c facts
 
 -- The end of a log, where no step follows.
-abbrev pub Ends : List ℕ → ℕ → ℕ → ℕ → Next → Built → Type 0
-Ends bytes at steps total Next.NothingLeft r = (r .stuck ≡ false) × Put bytes at (okBytes steps total) (r .bytes) (r .length) × (r .steps ≡ steps) × (r .total ≡ total)
-Ends bytes at steps total Next.NoCandidate r = r .stuck ≡ true
-Ends bytes at steps total (Next.Step g x y k) r = r .stuck ≡ true
+abbrev pub LogEnds : List ℕ → ℕ → ℕ → ℕ → Next → Built → Type 0
+LogEnds bytes at steps total Next.NothingLeft r = (r .stuck ≡ false) × Put bytes at (okBytes steps total) (r .bytes) (r .length) × (r .steps ≡ steps) × (r .total ≡ total)
+LogEnds bytes at steps total Next.NoCandidate r = r .stuck ≡ true
+LogEnds bytes at steps total (Next.Step g x y k) r = r .stuck ≡ true
 
-pub record Ended (bytes : List ℕ) (at steps total : ℕ) (next : Next) (r : Built) : Type 0 where
-  pub said : Ends bytes at steps total next r
+pub record LogEnded (bytes : List ℕ) (at steps total : ℕ) (next : Next) (r : Built) : Type 0 where
+  pub said : LogEnds bytes at steps total next r
 
 -- The log that was built is that of the run.
 pub record BuiltAs (ss : List Step) (r : Built) : Type 0 where

@@ -5,10 +5,10 @@ ghost use mathlib.Core.List.{[], _∷_, _++_};
 ghost use Prim.Native.Nat.{_+_, _<_, _≤_};
 ghost use lib.ListN.{length, take, drop};
 ghost use Rattle.book.specs.Limits.{maxLog};
-ghost use Rattle.step.specs.Contracts.{question};
-ghost use Rattle.log.specs.Format.{listBytes, fourBytes, okBytes};
+ghost use Rattle.step.specs.Contracts.{maskQuestion};
+ghost use Rattle.log.specs.Format.{ST, listBytes, fourBytes, okBytes, begins};
 ghost use Rattle.log.specs.Meaning.{literalsOf, runOf};
-ghost use Rattle.log.specs.Contracts.{Put, memberByte, putStep, stepBytes, Ended, LogAsked, Ran, WrittenAs};
+ghost use Rattle.log.specs.Contracts.{Put, memberByte, putStep, stepBytes, LogEnded, LogAsked, Ran, WrittenAs};
 use book::Book;
 use literals::LiteralSet;
 use step::Next;
@@ -16,6 +16,20 @@ use step::Next;
 const ST: [u8; 2] = *b"ST";
 
 const OK: [u8; 2] = *b"OK";
+
+// Whether the bytes of a log begin with an ST record, from some place on.
+pub fn at_step(s: &[u8]) -> bool
+    ensures { λ r. ⌜ r ≡ begins ST (now (s .entry)) ⌝ }
+{
+    if s.len() < 2 {
+        return false;
+    }
+    if s[0] == ST[0] {
+        s[1] == ST[1]
+    } else {
+        false
+    }
+}
 
 // The byte of a set's literal over variable `v` + 1.
 fn member_byte(set: LiteralSet, v: u32) -> u8
@@ -99,7 +113,7 @@ fn put_ok(out: &mut [u8], at: usize, steps: u8, total: u32) -> usize
 }
 
 // The log as it is built: its bytes, and what OK says. It is stuck where goals exist and no candidate does.
-pub struct Built {
+struct Built {
     pub bytes: [u8; Book::MAX_LOG],
     pub length: usize,
     pub steps: u8,
@@ -133,7 +147,7 @@ fn stopped(bytes: [u8; Book::MAX_LOG]) -> Built
 // The end of a log, where no step follows: OK where nothing is left.
 fn ended(bytes: [u8; Book::MAX_LOG], at: usize, steps: u8, total: u32, next: Next) -> Built
     requires { ⌜ at + length (okBytes steps total) ≤ length bytes ⌝ }
-    ensures { λ r. ⌜ Ended bytes at steps total next r ⌝ }
+    ensures { λ r. ⌜ LogEnded bytes at steps total next r ⌝ }
 {
     let mut out = bytes;
     match next {
@@ -168,7 +182,7 @@ fn build(
     facts: LiteralSet,
 ) -> Built
     requires { ⌜ LogAsked n (now yes) (now no) choices costs consequence facts ⌝ }
-    ensures { λ r. ⌜ Ran (runOf (question n (now (yes .entry)) (now (no .entry)) choices costs consequence facts)) r ⌝ }
+    ensures { λ r. ⌜ Ran (runOf (maskQuestion n (now (yes .entry)) (now (no .entry)) choices costs consequence facts)) r ⌝ }
 {
     let mut bytes = [0u8; Book::MAX_LOG];
     let mut at: usize = 0;
@@ -223,7 +237,7 @@ pub fn write(
 ) -> Written
     requires { ⌜ LogAsked n (now yes) (now no) choices costs consequence facts ⌝ }
     requires { ⌜ maxLog ≤ length (now buffer) ⌝ }
-    ensures { λ r. ⌜ WrittenAs (runOf (question n (now (yes .entry)) (now (no .entry)) choices costs consequence facts)) (now (buffer .entry)) (now (buffer .exit)) r ⌝ }
+    ensures { λ r. ⌜ WrittenAs (runOf (maskQuestion n (now (yes .entry)) (now (no .entry)) choices costs consequence facts)) (now (buffer .entry)) (now (buffer .exit)) r ⌝ }
 {
     let built = build(n, yes, no, choices, costs, consequence, facts);
     if built.stuck {

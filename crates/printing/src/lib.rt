@@ -1,15 +1,48 @@
-// The printed log (document 01, "The printed log"): what the program `why` writes for a book.
-mod print;
+// The printed log (document 01, "The printed log"): the text of a log and of a refusal, put into a lent buffer.
+ghost use Prim.Native.Nat.{_≤_};
+ghost use lib.ListN.{length};
+ghost use Rattle.printing.specs.Text.{refusalText};
+ghost use Rattle.printing.specs.Printed.{PrintCall};
+ghost use Rattle.printing.specs.Contracts.{Front};
+
 mod records;
+mod text;
 
 use book::Book;
 use engine::LogAnswer;
 
-// Prints the engine's answer on a book: a line for each step and one at the end, or the refusal alone.
-pub fn answer(s: &[u8]) {
+// The bytes of a text, at most: six for each byte of a log.
+pub const MAX_TEXT: usize = 6 * Book::MAX_LOG;
+
+// The text's length, or that the buffer is too short for a text.
+pub enum Printed {
+    Text(usize),
+    Short,
+}
+
+// Puts the text that is printed for a book's bytes at the front of a lent buffer: the log's lines, or only the refusal.
+// Ruled out: a no literal without its sign; the total put for the number of steps.
+pub fn print(s: &[u8], out: &mut [u8]) -> Printed
+    ensures { λ r. ⌜ PrintCall (now (s .entry)) (now (out .entry)) (now (out .exit)) r ⌝ }
+{
+    if out.len() < MAX_TEXT {
+        return Printed::Short;
+    }
     let mut log = [0u8; Book::MAX_LOG];
     match engine::log(s, &mut log) {
-        LogAnswer::Refused { number, place } => print::refusal(number, place),
-        LogAnswer::Written { .. } => records::print_log(&log),
+        LogAnswer::Refused { number, place } => Printed::Text(put_refusal(out, number, place)),
+        LogAnswer::Written {
+            length,
+            steps: _,
+            total: _,
+        } => Printed::Text(records::put_log(out, &log[..length])),
     }
+}
+
+// The one line of a refusal: at most 8 + 3 + 4 + 20 + 1 bytes.
+fn put_refusal(out: &mut [u8], number: u8, place: usize) -> usize
+    requires { ⌜ 36 ≤ length (now out) ⌝ }
+    ensures { λ r. ⌜ Front (refusalText number place) (now (out .entry)) (now (out .exit)) r ⌝ }
+{
+    text::put_pair(out, 0, b"refused ", number as u64, b" at ", place as u64)
 }

@@ -1,93 +1,91 @@
-// The records of a log, each printed as one line. A place beyond the log's bytes is never read.
-ghost use Prim.Native.Nat.{_≤_, _<_};
-ghost use lib.ListN.{length};
-use crate::print;
-use book::Book;
+// The records of a log, each put as one line.
+ghost use mathlib.Core.Path.{_≡_};
+ghost use Prim.Native.Nat.{_+_, _*_, _≤_};
+ghost use lib.ListN.{length, getD};
+ghost use Rattle.log.specs.Contracts.{Put};
+ghost use Rattle.printing.specs.Text.{stepText, doneText};
+ghost use Rattle.printing.specs.Fields.{recordSize, recordIn, ofFields, totalIn};
+ghost use Rattle.printing.specs.Contracts.{LinePut, Printable, LogPut};
+use crate::text;
 
-// The marks that a log's records begin with.
-const ST: [u8; 2] = *b"ST";
-
-const OK: [u8; 2] = *b"OK";
-
-// The byte at a place, or 0 where the bytes end before it.
-fn byte_at(s: &[u8], at: usize) -> u8 {
-    if at < s.len() { s[at] } else { 0 }
-}
-
-// Whether a record begins with the mark.
-fn has_mark(record: &[u8], mark: [u8; 2]) -> bool {
-    byte_at(record, 0) == mark[0] && byte_at(record, 1) == mark[1]
+// The place after a line, and the length of the record that it prints.
+pub struct Line {
+    pub next: usize,
+    pub length: usize,
 }
 
 // The number in two bytes, the high one first.
 fn two_bytes(high: u8, low: u8) -> u64
-    ensures { λ r. ⌜ r < 65536 ⌝ }
+    ensures { λ r. ⌜ r ≡ 256 * high + low ⌝ }
 {
-    high as u64 * 0x100 + low as u64
+    256 * high as u64 + low as u64
 }
 
-// The total of an OK record, in four bytes, the high one first.
-fn total(record: &[u8]) -> u64 {
-    let high = two_bytes(byte_at(record, 3), byte_at(record, 4));
-    let low = two_bytes(byte_at(record, 5), byte_at(record, 6));
-    high * 0x10000 + low
+// The line of a step, from the fields of its record.
+fn put_line(
+    out: &mut [u8],
+    at: usize,
+    number: u64,
+    goal: u8,
+    facts: &[u8],
+    new: &[u8],
+    cost: u64,
+) -> usize
+    requires { ⌜ at + length (stepText number (ofFields goal (now facts) (now new) cost)) ≤ length (now out) ⌝ }
+    ensures { λ r. ⌜ Put (now (out .entry)) at (stepText number (ofFields goal (now (facts .entry)) (now (new .entry)) cost)) (now (out .exit)) r ⌝ }
+{
+    let numbered = text::put_field(out, at, b"step ", number);
+    let parted = text::put_word(out, numbered, b" goal ");
+    let aimed = text::put_literal(out, parted, goal);
+    let reasoned = text::put_list(out, aimed, b" from", facts);
+    let listed = text::put_list(out, reasoned, b" new", new);
+    let priced = text::put_field(out, listed, b" cost ", cost);
+    text::put_word(out, priced, b"\n")
 }
 
-// The literals from one place to another, as far as the record has bytes.
-fn print_literals(record: &[u8], from: usize, to: usize) {
-    for i in from..to {
-        if i < record.len() {
-            print::literal(record[i]);
-        }
-    }
-}
-
-// The line of an ST record, and the record's length; no line and 0 where the mark is another.
-fn print_step(record: &[u8], number: usize) -> usize {
-    if !has_mark(record, ST) {
-        return 0;
-    }
-    let facts = 4;
-    let facts_end = facts + byte_at(record, 3) as usize;
+// The line of the ST record at the front of `s`.
+fn put_step(out: &mut [u8], at: usize, number: u64, s: &[u8]) -> Line
+    requires { ⌜ recordSize (now s) ≤ length (now s) ⌝ }
+    requires { ⌜ at + length (stepText number (recordIn (now s))) ≤ length (now out) ⌝ }
+    ensures { λ r. ⌜ LinePut (now (out .entry)) at number (now (s .entry)) (now (out .exit)) r ⌝ }
+{
+    let facts_end = 4 + s[3] as usize;
     let new = facts_end + 1;
-    let new_end = new + byte_at(record, facts_end) as usize;
-    let cost = two_bytes(byte_at(record, new_end), byte_at(record, new_end + 1));
-    print::field(b"step ", number as u64);
-    print::text(b" goal");
-    print::literal(byte_at(record, 2));
-    print::text(b" from");
-    print_literals(record, facts, facts_end);
-    print::text(b" new");
-    print_literals(record, new, new_end);
-    print::field(b" cost ", cost);
-    print::text(b"\n");
-    new_end + 2
-}
-
-// The line of the OK record, or none where the mark is another.
-fn print_end(record: &[u8]) {
-    if has_mark(record, OK) {
-        print::field(b"done ", byte_at(record, 2) as u64);
-        print::field(b" total ", total(record));
-        print::text(b"\n");
+    let new_end = new + s[facts_end] as usize;
+    let cost = two_bytes(s[new_end], s[new_end + 1]);
+    let facts = &s[4..facts_end];
+    let next = put_line(out, at, number, s[2], facts, &s[new..new_end], cost);
+    Line {
+        next,
+        length: new_end + 2,
     }
 }
 
-// The place so many bytes on, or the log's end where that comes first.
-fn place_after(log: &[u8], at: usize, size: usize) -> usize
-    requires { ⌜ at ≤ length (now log) ⌝ }
-    ensures { λ r. ⌜ r ≤ length (now (log .entry)) ⌝ }
+// The line of the OK record at the front of `s`.
+fn put_done(out: &mut [u8], at: usize, s: &[u8]) -> usize
+    requires { ⌜ 7 ≤ length (now s) ⌝ }
+    requires { ⌜ at + length (doneText (getD (now s) 2 0) (totalIn (now s))) ≤ length (now out) ⌝ }
+    ensures { λ r. ⌜ Put (now (out .entry)) at (doneText (getD (now (s .entry)) 2 0) (totalIn (now (s .entry)))) (now (out .exit)) r ⌝ }
 {
-    let left = log.len() - at;
-    if size < left { at + size } else { log.len() }
+    let high = two_bytes(s[3], s[4]);
+    let low = two_bytes(s[5], s[6]);
+    let total = 65536 * high + low;
+    text::put_pair(out, at, b"done ", s[2] as u64, b" total ", total)
 }
 
-// The lines of a log: at most one step for each choice, then the end.
-pub fn print_log(log: &[u8]) {
+// The text of a log: a line for each ST record, and one for OK.
+pub fn put_log(out: &mut [u8], log: &[u8]) -> usize
+    requires { ⌜ Printable (now log) (now out) ⌝ }
+    ensures { λ r. ⌜ LogPut (now (log .entry)) (now (out .entry)) (now (out .exit)) r ⌝ }
+{
     let mut at = 0;
-    for number in 1..=Book::MAX_CHOICES {
-        let size = print_step(&log[at..], number);
-        at = place_after(log, at, size);
+    let mut from = 0;
+    let mut number: u64 = 1;
+    while log::at_step(&log[from..]) {
+        let line = put_step(out, at, number, &log[from..]);
+        at = line.next;
+        from += line.length;
+        number += 1;
     }
-    print_end(&log[at..]);
+    put_done(out, at, &log[from..])
 }

@@ -34,16 +34,16 @@ use Rattle.problem.specs.Proper.{AllOf, ProperProblem}
 -- ---- literals that rise
 
 -- the first literal of a list that rises, and the rest
-record First (n last : ℕ) (l : Literal) (ls : List Literal) : Type 0 where
+record RisingHead (n last : ℕ) (l : Literal) (ls : List Literal) : Type 0 where
   above : last < variable l
   upto : variable l ≤ n
   rest : rising n (variable l) ls ≡ true
 
-first : (n last : ℕ) (l : Literal) (ls : List Literal) → rising n last (l ∷ ls) ≡ true → First n last l ls
+first : (n last : ℕ) (l : Literal) (ls : List Literal) → rising n last (l ∷ ls) ≡ true → RisingHead n last l ls
 unfolding rising
 first n last l ls e = go (ltb last (variable l)) (leb (variable l) n) refl refl e
   where
-    go : (a b : Bool) → ltb last (variable l) ≡ a → leb (variable l) n ≡ b → a && b && rising n (variable l) ls ≡ true → First n last l ls
+    go : (a b : Bool) → ltb last (variable l) ≡ a → leb (variable l) n ≡ b → a && b && rising n (variable l) ls ≡ true → RisingHead n last l ls
     go true true p q r = record { above = ltb-true _ _ p; upto = leb-true _ _ q; rest = r }
     go true false p q r = absurd (false≢true r)
     go false b p q r = absurd (false≢true r)
@@ -96,7 +96,7 @@ unfolding yesMask noMask
 rising-apart n last [] e = record { avoids = λ v. omega (arith, bit-zero v) }
 rising-apart n last (l ∷ ls) e = apart (first n last l ls e) (λ h. rising-apart n (variable l) ls h)
   where
-    apart : First n last l ls → (rising n (variable l) ls ≡ true → Apart (yesMask ls) (noMask ls)) → Apart (union (yesBit l) (yesMask ls)) (union (noBit l) (noMask ls))
+    apart : RisingHead n last l ls → (rising n (variable l) ls ≡ true → Apart (yesMask ls) (noMask ls)) → Apart (union (yesBit l) (yesMask ls)) (union (noBit l) (noMask ls))
     apart r ih = record { avoids = λ v. go v (decLt v (variable l)) }
       where
         go : (v : ℕ) → Dec (v < variable l) → bit (union (yesBit l) (yesMask ls)) v + bit (union (noBit l) (noMask ls)) v ≤ 1

@@ -109,27 +109,27 @@ remove-less t v e =
 -- ---- the sets between s and top
 
 -- The set t contradicts, holds s and lies within top.
-pub record Between (Con : ℕ → Type 0) (s top t : ℕ) : Type 0 where
+pub record InInterval (Con : ℕ → Type 0) (s top t : ℕ) : Type 0 where
   pub above : Within s t
   pub below : Within t top
   pub holds : Con t
 
 -- The key does not fall from a set to a superset.
-pub record Rises (key : ℕ → ℕ) : Type 0 where
+pub record Monotone (key : ℕ → ℕ) : Type 0 where
   pub rises : (s t : ℕ) → Within s t → key s ≤ key t
 
 -- The oracle's second answer: w is apart from s, and every contradicting set between s and top meets w.
 pub record Hit (Con : ℕ → Type 0) (s top w : ℕ) : Type 0 where
   pub apart : Apart s w
-  pub meets : (t : ℕ) → Between Con s top t → (v : ℕ) × (bit w v ≡ 1) × (bit t v ≡ 1)
+  pub meets : (t : ℕ) → InInterval Con s top t → (v : ℕ) × (bit w v ≡ 1) × (bit t v ≡ 1)
 
 module _ {Con : ℕ → Type 0} {key : ℕ → ℕ} {s top : ℕ} where
   -- the key of s is not below the bound: no superset's is
-  pub prune : {b : ℕ} → Rises key → b ≤ key s → Least (Between Con s top) key b b
+  pub prune : {b : ℕ} → Monotone key → b ≤ key s → Least (InInterval Con s top) key b b
   prune m h = record { low = omega arith; least = λ t p. omega (arith, m .rises s t (p .above)); from = inl refl }
 
   -- s contradicts, and no superset has a lower key
-  pub hit : {b : ℕ} → Rises key → Within s top → Con s → key s < b → Least (Between Con s top) key b (key s)
+  pub hit : {b : ℕ} → Monotone key → Within s top → Con s → key s < b → Least (InInterval Con s top) key b (key s)
   hit m w c h =
       record {
         low = omega arith;
@@ -138,32 +138,32 @@ module _ {Con : ℕ → Type 0} {key : ℕ → ℕ} {s top : ℕ} where
       }
 
   -- no member of the witness is left: no set between s and top contradicts
-  pub no-member : {b w : ℕ} → Hit Con s top w → inter w top ≡ 0 → Least (Between Con s top) key b b
+  pub no-member : {b w : ℕ} → Hit Con s top w → inter w top ≡ 0 → Least (InInterval Con s top) key b b
   no-member {b} {w} h z = least-none (λ t p. clash t p (h .meets t p))
     where
-      clash : (t : ℕ) → Between Con s top t → (v : ℕ) × (bit w v ≡ 1) × (bit t v ≡ 1) → ⊥
+      clash : (t : ℕ) → InInterval Con s top t → (v : ℕ) × (bit w v ≡ 1) × (bit t v ≡ 1) → ⊥
       clash t p (v, a, c) = omega (arith, bit-inter w top v, ap (λ (x : ℕ). bit x v) z, bit-zero v, p .below .keeps v, bit-le top v)
 
   -- a member v of the witness within top: the sets with v, and then those without it
-  pub branch-on : (v : ℕ) {b m r : ℕ} → Within s top → bit s v ≡ 0 → bit top v ≡ 1 → Least (Between Con (insert s v) top) key b m
-      → Least (Between Con s (remove top v)) key m r → Least (Between Con s top) key b r
+  pub branch-on : (v : ℕ) {b m r : ℕ} → Within s top → bit s v ≡ 0 → bit top v ≡ 1 → Least (InInterval Con (insert s v) top) key b m
+      → Least (InInterval Con s (remove top v)) key m r → Least (InInterval Con s top) key b r
   branch-on v w i o x y = least-both split left right x y
     where
-      split : (t : ℕ) → Between Con s top t → Between Con (insert s v) top t ⊎ Between Con s (remove top v) t
+      split : (t : ℕ) → InInterval Con s top t → InInterval Con (insert s v) top t ⊎ InInterval Con s (remove top v) t
       split t p =
           by-cases (ℕ-discrete (bit t v) 1)
           (λ e. inl (record { above = insert-within s t v (p .above) e; below = p .below; holds = p .holds }))
           (λ d. inr (record { above = p .above; below = within-remove t top v (p .below) (omega (arith, bit-le t v)); holds = p .holds }))
 
-      left : (t : ℕ) → Between Con (insert s v) top t → Between Con s top t
+      left : (t : ℕ) → InInterval Con (insert s v) top t → InInterval Con s top t
       left t p = record { above = within-trans s (insert s v) t (within-insert s v) (p .above); below = p .below; holds = p .holds }
 
-      right : (t : ℕ) → Between Con s (remove top v) t → Between Con s top t
+      right : (t : ℕ) → InInterval Con s (remove top v) t → InInterval Con s top t
       right t p = record { above = p .above; below = within-trans t (remove top v) top (p .below) (remove-within top v); holds = p .holds }
 
 -- the witness serves for the sets without v
 pub hit-rest : {Con : ℕ → Type 0} {s top w : ℕ} (v : ℕ) → Hit Con s top w → Hit Con s (remove top v) w
 hit-rest {Con} {s} {top} v h = record { apart = h .apart; meets = λ t p. h .meets t (wider t p) }
   where
-    wider : (t : ℕ) → Between Con s (remove top v) t → Between Con s top t
+    wider : (t : ℕ) → InInterval Con s (remove top v) t → InInterval Con s top t
     wider t p = record { above = p .above; below = within-trans t (remove top v) top (p .below) (remove-within top v); holds = p .holds }

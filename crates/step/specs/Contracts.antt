@@ -16,7 +16,7 @@ use Rattle.consequence.specs.Meaning.{yesForced, noForced, NoModelOf}
 use Rattle.consequence.specs.Contracts.{maskTheory}
 use Rattle.problem.specs.Problem.{costOf, literalCost}
 use Rattle.step.specs.Meaning.{sumBelow, literalOf, Question, asking, goals, againstOn, againstOff, candidateCost, Answer, nothingLeft, noCandidate, Step, step, stepFrom}
-use Rattle.step.specs.Cheapest.{Least, Between, Hit}
+use Rattle.step.specs.Cheapest.{Least, InInterval, Hit}
 use Rattle.step.specs.declared.Aim.{Aim}
 use Rattle.step.specs.declared.Part.{Part}
 use Rattle.step.specs.declared.Next.{Next}
@@ -109,13 +109,13 @@ pub record Branching (n : ℕ) (ys ns ws : List ℕ) (aim : Aim) (part : Part) (
 
 -- The least of the bound and the keys of the candidates in the part.
 pub record Explored (n : ℕ) (ys ns ws : List ℕ) (aim : Aim) (part : Part) (best r : ℕ) : Type 0 where
-  pub cheapest : Least (Between (Refutes n ys ns aim) (part .chosen) (part .limit)) (keyAt n ws aim) best r
+  pub cheapest : Least (InInterval (Refutes n ys ns aim) (part .chosen) (part .limit)) (keyAt n ws aim) best r
 
 -- ---- the search over all goals
 
 -- What the arguments ask.
-abbrev pub question : ℕ → List ℕ → List ℕ → ℕ → List (List ℕ) → LiteralSet → LiteralSet → Question
-question n ys ns ch table c k = asking (maskTheory n ys ns ch) table c k
+abbrev pub maskQuestion : ℕ → List ℕ → List ℕ → ℕ → List (List ℕ) → LiteralSet → LiteralSet → Question
+maskQuestion n ys ns ch table c k = asking (maskTheory n ys ns ch) table c k
 
 -- The goal over variable v + 1, and all sets of known variables.
 abbrev pub aimAt : List (List ℕ) → LiteralSet → ℕ → Bool → Aim
@@ -142,28 +142,28 @@ pub record Picks (q : Question) (v s : ℕ) : Type 0 where
   pub refuted : NoModelOf (q .theory) (againstOn q s v) (againstOff q s v)
 
 -- A goal and a set, and their key.
-pub record Pair : Type 0 where
+pub record GoalAndSet : Type 0 where
   pub goal : ℕ
   pub set : ℕ
 
-abbrev pub pairKey : Question → Pair → ℕ
-pairKey q x = keyOf (candidateCost q (x .goal) (x .set)) (x .goal) (x .set)
+abbrev pub keyOfPair : Question → GoalAndSet → ℕ
+keyOfPair q x = keyOf (candidateCost q (x .goal) (x .set)) (x .goal) (x .set)
 
-abbrev pub Picked : Question → Pair → Type 0
+abbrev pub Picked : Question → GoalAndSet → Type 0
 Picked q x = Picks q (x .goal) (x .set)
 
 -- r is the least key of all candidates. The choices do not matter to it.
-pub record Found (n : ℕ) (ys ns : List ℕ) (table : List (List ℕ)) (c k : LiteralSet) (r : ℕ) : Type 0 where
-  pub cheapest : (ch : ℕ) → Least (Picked (question n ys ns ch table c k)) (pairKey (question n ys ns ch table c k)) noKey r
+pub record LeastFound (n : ℕ) (ys ns : List ℕ) (table : List (List ℕ)) (c k : LiteralSet) (r : ℕ) : Type 0 where
+  pub cheapest : (ch : ℕ) → Least (Picked (maskQuestion n ys ns ch table c k)) (keyOfPair (maskQuestion n ys ns ch table c k)) noKey r
 
 -- The same while the goals of `left` are still to be tried.
-pub record Trying (q : Question) (left : ℕ) (x : Pair) : Type 0 where
+pub record Trying (q : Question) (left : ℕ) (x : GoalAndSet) : Type 0 where
   pub picks : Picked q x
   pub tried : bit left (x .goal) ≡ 0
 
 pub record Searching (n : ℕ) (ys ns : List ℕ) (table : List (List ℕ)) (c k : LiteralSet) (left r : ℕ) : Type 0 where
   pub untried : Within left (union (diff (c .yes) (k .yes)) (diff (c .no) (k .no)))
-  pub cheapest : (ch : ℕ) → Least (Trying (question n ys ns ch table c k) left) (pairKey (question n ys ns ch table c k)) noKey r
+  pub cheapest : (ch : ℕ) → Least (Trying (maskQuestion n ys ns ch table c k) left) (keyOfPair (maskQuestion n ys ns ch table c k)) noKey r
 
 -- ---- the new literals
 
@@ -202,12 +202,12 @@ pub record Chosen (n : ℕ) (ys ns : List ℕ) (ch : ℕ) (k : LiteralSet) (best
 -- The step that a key stands for. The costs do not matter to it.
 abbrev pub stepAt : ℕ → List ℕ → List ℕ → ℕ → LiteralSet → LiteralSet → ℕ → Step
 stepAt n ys ns ch c k best =
-    stepFrom (question n ys ns ch [] c k)
+    stepFrom (maskQuestion n ys ns ch [] c k)
     (record { cost = best / setRoom / goalRoom; goal = best / setRoom % goalRoom; reasons = best % setRoom })
 
 -- The answer for each case.
-abbrev pub answer : Answer → Next
-answer nothingLeft = Next.NothingLeft
-answer noCandidate = Next.NoCandidate
-answer (step s) =
+abbrev pub nextOf : Answer → Next
+nextOf nothingLeft = Next.NothingLeft
+nextOf noCandidate = Next.NoCandidate
+nextOf (step s) =
     Next.Step (s .goal) (record { yes = s .reasons-on; no = s .reasons-off }) (record { yes = s .new-on; no = s .new-off }) (s .cost)

@@ -6,7 +6,7 @@ ghost use Rattle.literals.specs.Literal.{variable};
 ghost use Rattle.book.specs.Limits.{maxChoices};
 ghost use Rattle.problem.specs.Problem.{literalCost};
 ghost use Rattle.step.specs.Meaning.{literalOf, step, stepOf};
-ghost use Rattle.step.specs.Contracts.{weightOf, Weighed, keyOf, Small, Against, deniedBy, Exploring, Explored, Branching, question, aimAt, whole, Ready, Found, Reasoned, Learnt, Asked, Chosen, stepAt, answer};
+ghost use Rattle.step.specs.Contracts.{weightOf, Weighed, keyOf, Small, Against, deniedBy, Exploring, Explored, Branching, maskQuestion, aimAt, whole, Ready, LeastFound, Reasoned, Learnt, Asked, Chosen, stepAt, nextOf};
 use book::Book;
 use consequence::Consequence;
 use literals::LiteralSet;
@@ -27,7 +27,7 @@ pub enum Next {
 
 // What the search for one goal does not change: the goal's variable and what the goal says of it, the known literals,
 // and the cost of the goal's opposite.
-pub struct Aim {
+struct Aim {
     pub goal: u32,
     pub says: bool,
     pub on: u64,
@@ -37,7 +37,7 @@ pub struct Aim {
 
 // The sets of known variables that a part of the search looks at: they hold `chosen` and lie within `limit`. The cost
 // is that of `chosen` with the goal's opposite.
-pub struct Part {
+struct Part {
     pub chosen: u64,
     pub limit: u64,
     pub cost: u64,
@@ -232,7 +232,7 @@ fn cheapest(
     known: LiteralSet,
 ) -> u64
     requires { ⌜ Ready n (now yes) (now no) costs consequence known ⌝ }
-    ensures { λ r. ⌜ Found n (now (yes .entry)) (now (no .entry)) costs consequence known r ⌝ }
+    ensures { λ r. ⌜ LeastFound n (now (yes .entry)) (now (no .entry)) costs consequence known r ⌝ }
 {
     let weights = weigh(costs, known);
     let yes_goals = sets::difference(consequence.yes, known.yes);
@@ -284,7 +284,7 @@ fn step_of(
     best: u64,
 ) -> Next
     requires { ⌜ Chosen n (now yes) (now no) choices known best ⌝ }
-    ensures { λ r. ⌜ r ≡ answer (step (stepAt n (now (yes .entry)) (now (no .entry)) choices consequence known best)) ⌝ }
+    ensures { λ r. ⌜ r ≡ nextOf (step (stepAt n (now (yes .entry)) (now (no .entry)) choices consequence known best)) ⌝ }
 {
     let set = best % SETS;
     let v = (best / SETS % VARIABLES) as u32;
@@ -315,7 +315,7 @@ pub fn next_step(
     known: LiteralSet,
 ) -> Next
     requires { ⌜ Asked n (now yes) (now no) choices costs consequence known ⌝ }
-    ensures { λ r. ⌜ r ≡ answer (stepOf (question n (now (yes .entry)) (now (no .entry)) choices costs consequence known)) ⌝ }
+    ensures { λ r. ⌜ r ≡ nextOf (stepOf (maskQuestion n (now (yes .entry)) (now (no .entry)) choices costs consequence known)) ⌝ }
 {
     let yes_goals = sets::difference(consequence.yes, known.yes);
     let no_goals = sets::difference(consequence.no, known.no);

@@ -246,14 +246,14 @@ const J: [u8; 18] = [
 
 // Each order in turn; a is the order without bytes.
 fn main() {
-    printing::answer(b"");
-    printing::answer(&B);
-    printing::answer(&C);
-    printing::answer(&D);
-    printing::answer(&E);
-    printing::answer(&F);
-    printing::answer(&G);
-    printing::answer(&H);
-    printing::answer(&I);
-    printing::answer(&J);
+    console::show(b"");
+    console::show(&B);
+    console::show(&C);
+    console::show(&D);
+    console::show(&E);
+    console::show(&F);
+    console::show(&G);
+    console::show(&H);
+    console::show(&I);
+    console::show(&J);
 }

@@ -15,7 +15,7 @@ use borrow.Author.Needs.{needs}
 use denote.Ref.{now}
 use Rattle.sets.specs.Sets.{count}
 use Rattle.step.specs.Meaning.{goals, stepOf, step}
-use Rattle.step.specs.Contracts.{question}
+use Rattle.step.specs.Contracts.{maskQuestion}
 use Rattle.log.specs.Contracts.{LogAsked, putStep}
 use Rattle.log.proofs.RunLaws.{Logging, logging-none, logging-room, logging-more, logging-ended, end-room, bytes-room, step-open, goals-fewer, answered-step}
 use Rattle.log.proofs.build.Statement.{statement}
@@ -33,10 +33,10 @@ Inv-loop n yes' no' choices costs consequence bytes₀ at₀ known₀ steps₀ t
 
 abbrev μ-loop : tie.MeasureT-loop
 μ-loop n yes' no' choices costs consequence bytes₀ at₀ known₀ steps₀ total₀ bytes at known steps total =
-    count (goals (question n yes' no' choices costs consequence known))
+    count (goals (maskQuestion n yes' no' choices costs consequence known))
 
 -- the step that was answered, in the arm that goes on
-told : (c : tie.After-known-told Inv-loop μ-loop) → stepOf (question (c .before .before .before .before .before .before .before .args .n) (now (c .before .before .before .before .before .before .before .args .yes)) (now (c .before .before .before .before .before .before .before .args .no)) (c .before .before .before .before .before .before .before .args .choices) (c .before .before .before .before .before .before .before .args .costs) (c .before .before .before .before .before .before .before .args .consequence) (c .before .before .before .before .loop .known)) ≡ step (putStep (c .before .next .given .0 .0) (c .before .next .given .0 .1 .0) (c .before .next .given .0 .1 .1 .0) (c .before .next .given .0 .1 .1 .1 .0))
+told : (c : tie.After-known-told Inv-loop μ-loop) → stepOf (maskQuestion (c .before .before .before .before .before .before .before .args .n) (now (c .before .before .before .before .before .before .before .args .yes)) (now (c .before .before .before .before .before .before .before .args .no)) (c .before .before .before .before .before .before .before .args .choices) (c .before .before .before .before .before .before .before .args .costs) (c .before .before .before .before .before .before .before .args .consequence) (c .before .before .before .before .loop .known)) ≡ step (putStep (c .before .next .given .0 .0) (c .before .next .given .0 .1 .0) (c .before .next .given .0 .1 .1 .0) (c .before .next .given .0 .1 .1 .1 .0))
 told c = answered-step _ (c .before .before .before .next-step .ensures) (c .before .next .given .1)
 
 -- its goal is a signed byte, and is handed over by its bits

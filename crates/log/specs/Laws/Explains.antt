@@ -33,7 +33,7 @@ use Rattle.step.specs.Theorems.{step-is, left-known, some-step}
 use Rattle.step.specs.Laws.Costs.{set-bound}
 use Rattle.step.specs.Laws.Explores.{opposite}
 use Rattle.step.specs.Laws.TheStep.{sound-sized}
-use Rattle.log.specs.Format.{StepRecord, Log, logBytes, risingOver}
+use Rattle.log.specs.Format.{StepRecord, Log, logBytes, isLog, readLog, risingOver}
 use Rattle.log.specs.Meaning.{Run, done, stuck, stepThen, withNew, runFrom, runOf, runFor, literalsOf, recordOf, costsWritten, logOf}
 use Rattle.log.specs.Demand3.{Forces, Contradicts, costOfSet, In, Unknown, StepHolds, EachHolds, knownAfter, Demand3, Explained}
 use Rattle.log.specs.Contracts.{ForcedBy}
@@ -328,21 +328,21 @@ module _ {p : Problem} (w : ProperProblem p) (some : hasModel p ≡ true) where
 
   -- ---- the whole log
 
-  record Follows (ks : List Literal) (known : LiteralSet) (ss : List Step) : Type 0 where
+  record RunHolds (ks : List Literal) (known : LiteralSet) (ss : List Step) : Type 0 where
     each : EachHolds p ks (map recordOf ss)
     fit : AllFit (p .choices) (map recordOf ss)
     cheap : costsWritten (map recordOf ss) ≤ 65535 * length ss
     ends : SameLiterals (knownAfter ks (map recordOf ss)) (yesConsequence p) (noConsequence p)
     few : length ss ≤ count (goals (ask known))
 
-  follows-none : (ks : List Literal) (known : LiteralSet) → Sound (ask known) → SameLiterals ks (known .yes) (known .no) → stepOf (ask known) ≡ nothingLeft → Follows ks known []
+  follows-none : (ks : List Literal) (known : LiteralSet) → Sound (ask known) → SameLiterals ks (known .yes) (known .no) → stepOf (ask known) ≡ nothingLeft → RunHolds ks known []
   unfolding knownAfter costsWritten
   follows-none ks known a st e =
       let l = left-known (ask known) a e in
       record { each = tt; fit = tt; cheap = omega arith; ends = rw (← l .0, ← l .1) st; few = omega arith }
 
   follows-more : (ks : List Literal) (known : LiteralSet) (s : Step) (rest : List Step) (a : Sound (ask known)) (st : SameLiterals ks (known .yes) (known .no)) (e : stepOf (ask known) ≡ step s)
-      → Follows (ks ++ literalsOf (s .new-on) (s .new-off)) (record { yes = union (known .yes) (s .new-on); no = union (known .no) (s .new-off) }) rest → Follows ks known (s ∷ rest)
+      → RunHolds (ks ++ literalsOf (s .new-on) (s .new-off)) (record { yes = union (known .yes) (s .new-on); no = union (known .no) (s .new-off) }) rest → RunHolds ks known (s ∷ rest)
   unfolding knownAfter costsWritten
   follows-more ks known s rest a st e f =
       record {
@@ -354,7 +354,7 @@ module _ {p : Problem} (w : ProperProblem p) (some : hasModel p ≡ true) where
       }
 
   follows : (turns : ℕ) (ks : List Literal) (known : LiteralSet) (ss : List Step) → Sound (ask known) → SameLiterals ks (known .yes) (known .no)
-      → runFrom turns (ask known) ≡ done ss → Follows ks known ss
+      → runFrom turns (ask known) ≡ done ss → RunHolds ks known ss
   unfolding runFrom withNew
   follows zero ks known ss a st e = let z : _≡_ {A = ℕ} 0 1 = cc in absurd (omega arith)
   follows (suc turns) ks known ss a st e =
@@ -364,13 +364,13 @@ module _ {p : Problem} (w : ProperProblem p) (some : hasModel p ≡ true) where
       go : (r : Answer) → stepOf (ask known) ≡ r
           → elim r [ nothingLeft ↦ done [] | noCandidate ↦ stuck | step s ↦ stepThen s (runFrom turns (withNew (ask known) s)) ] ≡ done ss
           → ((s : Step) (rest : List Step) → stepOf (ask known) ≡ step s → runFrom turns (withNew (ask known) s) ≡ done rest
-          → Follows (ks ++ literalsOf (s .new-on) (s .new-off)) (record { yes = union (known .yes) (s .new-on); no = union (known .no) (s .new-off) }) rest)
-          → Follows ks known ss
+          → RunHolds (ks ++ literalsOf (s .new-on) (s .new-off)) (record { yes = union (known .yes) (s .new-on); no = union (known .no) (s .new-off) }) rest)
+          → RunHolds ks known ss
       go nothingLeft d h ih = let same : [] ≡ ss = cc in rw (← same) (follows-none ks known a st d)
       go noCandidate d h ih = let z : _≡_ {A = ℕ} 0 1 = cc in absurd (omega arith)
       go (step s) d h ih = more (runFrom turns (withNew (ask known) s)) refl h
         where
-          more : (r : Run) → runFrom turns (withNew (ask known) s) ≡ r → stepThen s r ≡ done ss → Follows ks known ss
+          more : (r : Run) → runFrom turns (withNew (ask known) s) ≡ r → stepThen s r ≡ done ss → RunHolds ks known ss
           more stuck p q = let z : _≡_ {A = ℕ} 0 1 = cc in absurd (omega arith)
           more (done rest) p q = let same : s ∷ rest ≡ ss = cc in rw (← same) (follows-more ks known s rest a st d (ih s rest d p))
 
@@ -414,10 +414,10 @@ module _ {p : Problem} (w : ProperProblem p) (some : hasModel p ≡ true) where
   unfolding goals theoryOf
   goals-few = ones-le (p .variables) _ (sound-sized (ask (given p)) first-known .goals-below)
 
-  in-form : (ss : List Step) → Follows (p .facts) (given p) ss → InForm (p .choices) (logOf ss)
+  in-form : (ss : List Step) → RunHolds (p .facts) (given p) ss → InForm (p .choices) (logOf ss)
   in-form ss f = record { each = f .fit; total-fits = omega (arith, f .cheap, f .few, goals-few, w .few-variables) }
 
-  demand-of : (ss : List Step) → Follows (p .facts) (given p) ss → Demand3 p (logBytes (logOf ss))
+  demand-of : (ss : List Step) → RunHolds (p .facts) (given p) ss → Demand3 p (logBytes (logOf ss))
   unfolding goals
   demand-of ss f =
       record {
@@ -442,6 +442,11 @@ module _ {p : Problem} (w : ProperProblem p) (some : hasModel p ≡ true) where
   unfolding runFor runOf demand-of
   explained ss e =
       record { demand = demand-of ss (follows _ (p .facts) (given p) ss first-known (same-masks (p .facts) (w .facts-proper)) e); steps-said = refl; total-said = refl }
+
+  -- its bytes are read back as it
+  pub reads-back : (ss : List Step) → runFor p ≡ done ss → readLog (p .choices) (logBytes (logOf ss)) ≡ isLog (logOf ss)
+  unfolding explained demand-of
+  reads-back ss e = explained ss e .demand .read
 
   -- ---- a log is written
 

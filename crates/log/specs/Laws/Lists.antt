@@ -46,17 +46,17 @@ pub in-no : (on off v : ℕ) → bit off v ≡ 1 → bit on v ≡ 0 → In (negs
 in-no on off v e z = in-set on off v false (omega (arith, bit-union on off v)) (zero-has on v z)
 
 -- A literal of the list of a set: its variable, and which mask it is from.
-pub record Member (on off : ℕ) (l : Literal) : Type 0 where
+pub record ListMember (on off : ℕ) (l : Literal) : Type 0 where
   pub variable-of : ℕ
   pub which : ((l ≡ pos (suc variable-of)) × (bit on variable-of ≡ 1)) ⊎ ((l ≡ negsuc variable-of) × (bit off variable-of ≡ 1))
 
-pub list-member : (on off : ℕ) (l : Literal) → In l (literalsOf on off) → Member on off l
+pub list-member : (on off : ℕ) (l : Literal) → In l (literalsOf on off) → ListMember on off l
 unfolding literalsOf
 list-member on off l m =
     let t = Memᴰ·of-map (λ (u : ℕ). literalOf u (has on u)) (members (union on off)) m in
     go (t .0) (has on (t .0)) refl (sym (t .2)) (members-in (union on off) (t .0) (t .1))
   where
-    go : (v : ℕ) (b : Bool) → has on v ≡ b → l ≡ literalOf v (has on v) → bit (union on off) v ≡ 1 → Member on off l
+    go : (v : ℕ) (b : Bool) → has on v ≡ b → l ≡ literalOf v (has on v) → bit (union on off) v ≡ 1 → ListMember on off l
     go v true h e k = record { variable-of = v; which = inl (e ∙ ap (literalOf v) h, has-true on v h) }
     go v false h e k =
         record { variable-of = v; which = inr (e ∙ ap (literalOf v) h, omega (arith, bit-union on off v, has-false on v h, bit-le off v)) }
@@ -123,7 +123,7 @@ hold-avoids f on off a e = record { avoids = λ v. go v (ℕ-discrete (bit off v
 pub keeps-hold : (f on off : ℕ) → Within on f → Apart off f → allHold f (literalsOf on off) ≡ true
 keeps-hold f on off w a = in-all f (literalsOf on off) (λ l m. go l (list-member on off l m))
   where
-    go : (l : Literal) → Member on off l → holds f l ≡ true
+    go : (l : Literal) → ListMember on off l → holds f l ≡ true
     go l m = elim (m .which) [
       | inl p ↦ ap (holds f) (p .0) ∙ pos-holds f (m .variable-of) (omega (arith, p .1, w .keeps (m .variable-of), bit-le f (m .variable-of)))
       | inr p ↦ ap (holds f) (p .0) ∙ neg-holds f (m .variable-of) (omega (arith, p .1, a .avoids (m .variable-of)))
@@ -221,7 +221,7 @@ list-rises ch on off p q =
 pub yes-again : (on off : ℕ) → yesMask (literalsOf on off) ≡ on
 yes-again on off = ext (yesMask (literalsOf on off)) on (λ v. go v (ℕ-discrete (bit on v) 1) (ℕ-discrete (bit (yesMask (literalsOf on off)) v) 1))
   where
-    from : (v : ℕ) → Member on off (pos (suc v)) → bit on v ≡ 1
+    from : (v : ℕ) → ListMember on off (pos (suc v)) → bit on v ≡ 1
     from v m = elim (m .which) [
       | inl p ↦ (let e : v ≡ m .variable-of = cc (p .0) in ap (bit on) e ∙ p .1)
       | inr p ↦ (let z : _≡_ {A = ℕ} 0 1 = cc (p .0) in absurd (omega arith))
@@ -235,7 +235,7 @@ yes-again on off = ext (yesMask (literalsOf on off)) on (λ v. go v (ℕ-discret
 pub no-again : (on off : ℕ) → Apart on off → noMask (literalsOf on off) ≡ off
 no-again on off a = ext (noMask (literalsOf on off)) off (λ v. go v (ℕ-discrete (bit off v) 1) (ℕ-discrete (bit (noMask (literalsOf on off)) v) 1))
   where
-    from : (v : ℕ) → Member on off (negsuc v) → bit off v ≡ 1
+    from : (v : ℕ) → ListMember on off (negsuc v) → bit off v ≡ 1
     from v m = elim (m .which) [
       | inl p ↦ (let z : _≡_ {A = ℕ} 0 1 = cc (p .0) in absurd (omega arith))
       | inr p ↦ (let e : v ≡ m .variable-of = cc (p .0) in ap (bit off) e ∙ p .1)

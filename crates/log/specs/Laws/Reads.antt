@@ -239,8 +239,8 @@ begins-with mark s e =
     (eqb-true _ _ (and-both (leb 2 (length s)) _ (both .0) .1), eqb-true _ _ (both .1))
 
 -- What the seven bytes of OK are read as.
-abbrev ended : List ℕ → Log
-ended s = record { records = []; steps = getD s 2 0; total = 16777216 * getD s 3 0 + 65536 * getD s 4 0 + 256 * getD s 5 0 + getD s 6 0 }
+abbrev ok-read : List ℕ → Log
+ok-read s = record { records = []; steps = getD s 2 0; total = 16777216 * getD s 3 0 + 65536 * getD s 4 0 + 256 * getD s 5 0 + getD s 6 0 }
 
 module _ (choices : ℕ) where
   -- A list of literals, and the bytes after it.
@@ -318,7 +318,7 @@ module _ (choices : ℕ) where
       (λ m.
       let begun = begins-with OK s (and-both (begins OK s) _ m .0) in
       correct-cond (eqb (length s) 7) _ _
-      (λ e. of-log {l = ended s} (record {
+      (λ e. of-log {l = ok-read s} (record {
         whole = cc (all-elements 7 0 s (eqb-true (length s) 7 e), four-written (getD s 3 0) (getD s 4 0) (getD s 5 0) (getD s 6 0) (b 3) (b 4) (b 5) (b 6));
         read = record { each = tt; steps-fit = b 2; total-fits = omega (arith, b 3, b 4, b 5, b 6) };
       }))

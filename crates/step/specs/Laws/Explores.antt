@@ -17,9 +17,9 @@ use Rattle.sat.specs.Contracts.{Posed, digit, Assigned, Searched}
 use Rattle.sat.specs.Laws.Assigns.{model-assigned, assigned-model, posed-assigned}
 use Rattle.sat.specs.Laws.Searches.{searched-first, searched-none}
 use Rattle.sat.specs.declared.Outcome.{Outcome}
-use Rattle.sat.specs.declared.Outcome.the-variants.{Model as Found, Nothing}
+use Rattle.sat.specs.declared.Outcome.the-variants.{Model as LeastFound, Nothing}
 use Rattle.book.specs.Limits.{maxChoices}
-use Rattle.step.specs.Cheapest.{Least, Between, Rises, Hit, insert-within, within-remove, remove-within, insert-more, remove-less, prune, hit, no-member, branch-on, hit-rest}
+use Rattle.step.specs.Cheapest.{Least, InInterval, Monotone, Hit, insert-within, within-remove, remove-within, insert-more, remove-less, prune, hit, no-member, branch-on, hit-rest}
 use Rattle.step.specs.Contracts.{costRoom, total, keyOf, Small, aimOn, aimOff, Against, deniedBy, Refutes, keyAt, Sought, Exploring, Branching, Explored}
 use Rattle.step.specs.Laws.Costs.{total-le, total-insert}
 use Rattle.step.specs.declared.Aim.{Aim}
@@ -86,7 +86,7 @@ module _ {n : ℕ} {ys ns ws : List ℕ} {aim : Aim} where
           by-cases (decLt v n) (λ h. omega (arith, bit-full n v h, bit-le s v))
           (λ h. omega (arith, w .keeps v, bit-high n (union (aim .on) (aim .off)) v (known-below x) (omega arith)))
 
-key-rises : (n : ℕ) (ws : List ℕ) (aim : Aim) → Rises (keyAt n ws aim)
+key-rises : (n : ℕ) (ws : List ℕ) (aim : Aim) → Monotone (keyAt n ws aim)
 key-rises n ws aim = record { rises = λ s t w. omega (arith, total-le ws n s t w, within-le s t w) }
 
 -- what a model of the question denies is met by every candidate of the part
@@ -130,7 +130,7 @@ witness n ys ns aim s top m z = record { apart = record { avoids = avoids }; mee
         })
         (it .1)
 
-    meets : (t : ℕ) → Between (Refutes n ys ns aim) s top t → (b : Bool) → disjoint t denied ≡ b
+    meets : (t : ℕ) → InInterval (Refutes n ys ns aim) s top t → (b : Bool) → disjoint t denied ≡ b
         → (v : ℕ) × (bit denied v ≡ 1) × (bit t v ≡ 1)
     meets t b true e = absurd (b .holds .none m (kept t (disjoint-apart t denied e)))
     meets t b false e = let w = disjoint-false t denied e in (w .0, w .2, w .1)
@@ -165,7 +165,7 @@ module _ {n : ℕ} {ys ns ws : List ℕ} {aim : Aim} {part : Part} where
       rw (here-key {here = here} x e) (record { cheapest = hit (key-rises n ws aim) (x .nested) none (omega (arith, here-key {here = here} x e)) })
 
   pub explore-branching : {on off prefer m w : ℕ} {r : Outcome} → Exploring n ys ns ws aim part → Against aim (part .chosen) on off
-      → Searched n ys ns on off prefer r → r ≡ Found m → w ≡ deniedBy (aim .on) (aim .off) m → Branching n ys ns ws aim part w
+      → Searched n ys ns on off prefer r → r ≡ LeastFound m → w ≡ deniedBy (aim .on) (aim .off) m → Branching n ys ns ws aim part w
   explore-branching {m = m} x a s d e =
       record { exploring = x; hits = rw e (witness n ys ns aim (part .chosen) (part .limit) m (rw (a .on-said, a .off-said) at (searched-first s d .model))) }
 
@@ -176,7 +176,7 @@ module _ {n : ℕ} {ys ns ws : List ℕ} {aim : Aim} {part : Part} where
   branch-none b e z = record { cheapest = no-member (b .hits) (sym e ∙ z) }
 
 -- Variable v is one that the part may still choose.
-pub record Member (n : ℕ) (ws : List ℕ) (part : Part) (v : ℕ) : Type 0 where
+pub record RowMember (n : ℕ) (ws : List ℕ) (part : Part) (v : ℕ) : Type 0 where
   pub small : v < 64
   pub below : v < n
   pub weighed : v < length ws
@@ -184,7 +184,7 @@ pub record Member (n : ℕ) (ws : List ℕ) (part : Part) (v : ℕ) : Type 0 whe
   pub unused : bit (part .chosen) v ≡ 0
 
 module _ {n : ℕ} {ys ns ws : List ℕ} {aim : Aim} {part : Part} where
-  pub branch-member : {left w v : ℕ} → Branching n ys ns ws aim part w → left ≡ inter w (part .limit) → Lowest left v → Member n ws part v
+  pub branch-member : {left w v : ℕ} → Branching n ys ns ws aim part w → left ≡ inter w (part .limit) → Lowest left v → RowMember n ws part v
   branch-member {left} {w} {v} b e l =
       let d : bit (inter w (part .limit)) v ≡ 1 = sym (ap (λ (x : ℕ). bit x v) e) ∙ l .least .member in
       let i : bit (part .limit) v ≡ 1 = omega (arith, bit-inter w (part .limit) v, bit-le w v, bit-le (part .limit) v) in
@@ -198,7 +198,7 @@ module _ {n : ℕ} {ys ns ws : List ℕ} {aim : Aim} {part : Part} where
       }
 
   -- the sum of the costs has room
-  pub branch-fits : {w v : ℕ} → Branching n ys ns ws aim part w → Member n ws part v → part .cost + getD ws v 0 < costRoom
+  pub branch-fits : {w v : ℕ} → Branching n ys ns ws aim part w → RowMember n ws part v → part .cost + getD ws v 0 < costRoom
   branch-fits {v = v} b m =
       let more : Within (insert (part .chosen) v) (part .limit) = insert-within (part .chosen) (part .limit) v (b .exploring .nested) (m .limited) in
       let known : Within (insert (part .chosen) v) (union (aim .on) (aim .off)) = within-trans (insert (part .chosen) v) (part .limit) (union (aim .on) (aim .off)) more (b .exploring .known) in
@@ -209,7 +209,7 @@ module _ {n : ℕ} {ys ns ws : List ℕ} {aim : Aim} {part : Part} where
         known-small (insert (part .chosen) v) (b .exploring .sought) known .cost-small,
       )
 
-  module _ {w v : ℕ} (b : Branching n ys ns ws aim part w) (m : Member n ws part v) where
+  module _ {w v : ℕ} (b : Branching n ys ns ws aim part w) (m : RowMember n ws part v) where
     -- the sets with v
     pub branch-with : {x k : ℕ} → x ≡ insert (part .chosen) v → k ≡ part .cost + getD ws v 0
         → Exploring n ys ns ws aim (record { chosen = x; limit = part .limit; cost = k })
@@ -260,8 +260,8 @@ module _ {n : ℕ} {ys ns ws : List ℕ} {aim : Aim} {part : Part} where
     branch-both {best = best} {found} {r} e d p q =
         record {
           cheapest = branch-on v (b .exploring .nested) (m .unused) (m .limited)
-              (subst (λ (z : ℕ). Least (Between (Refutes n ys ns aim) z (part .limit)) (keyAt n ws aim) best found) e (p .cheapest))
-              (subst (λ (z : ℕ). Least (Between (Refutes n ys ns aim) (part .chosen) z) (keyAt n ws aim) found r) d (q .cheapest));
+              (subst (λ (z : ℕ). Least (InInterval (Refutes n ys ns aim) z (part .limit)) (keyAt n ws aim) best found) e (p .cheapest))
+              (subst (λ (z : ℕ). Least (InInterval (Refutes n ys ns aim) (part .chosen) z) (keyAt n ws aim) found r) d (q .cheapest));
         }
 
 -- the steps of `explore`, and of `branch`

@@ -16,8 +16,8 @@ use Rattle.book.specs.Limits.{maxChoices, maxCost}
 use Rattle.consequence.specs.Laws.Masks.{to-theory, none-to-theory, none-of-theory}
 use Rattle.problem.specs.Problem.{costOf, literalCost}
 use Rattle.step.specs.Meaning.{Question, setCost, literalOf, yesGoals, noGoals, goals, reasonsOn, reasonsOff, againstOn, againstOff, candidateCost}
-use Rattle.step.specs.Cheapest.{Least, Between, least-none, least-both, least-same, remove-within, remove-less}
-use Rattle.step.specs.Contracts.{weightOf, Weighed, total, keyOf, Small, aimOn, aimOff, Refutes, keyAt, Sought, Exploring, Explored, question, aimAt, whole, Ready, Picks, Pair, pairKey, noKey, Found, Trying, Searching}
+use Rattle.step.specs.Cheapest.{Least, InInterval, least-none, least-both, least-same, remove-within, remove-less}
+use Rattle.step.specs.Contracts.{weightOf, Weighed, total, keyOf, Small, aimOn, aimOff, Refutes, keyAt, Sought, Exploring, Explored, maskQuestion, aimAt, whole, Ready, Picks, GoalAndSet, keyOfPair, noKey, LeastFound, Trying, Searching}
 use Rattle.step.specs.Laws.Explores.{aim-posed}
 use Rattle.step.specs.declared.Aim.{Aim}
 use Rattle.step.specs.declared.Part.{Part}
@@ -167,23 +167,23 @@ module _ {n : ℕ} {ys ns : List ℕ} {table : List (List ℕ)} {c k : LiteralSe
   -- ---- its candidates are those of the question, with the same keys
 
   module _ (ch v : ℕ) (o : Open n c k v) (s : ℕ) where
-    aim-on : aimOn (aimAt table k v (has (diff (c .yes) (k .yes)) v)) s ≡ againstOn (question n ys ns ch table c k) s v
+    aim-on : aimOn (aimAt table k v (has (diff (c .yes) (k .yes)) v)) s ≡ againstOn (maskQuestion n ys ns ch table c k) s v
     unfolding aimOn againstOn reasonsOn noGoals
     aim-on =
         sym (cond-not (has (diff (c .yes) (k .yes)) v) (insert (inter s (k .yes)) v) (inter s (k .yes)))
         ∙ ap (λ (b : Bool). cond b (insert (inter s (k .yes)) v) (inter s (k .yes))) (sym (o .signed))
 
-    aim-off : aimOff (aimAt table k v (has (diff (c .yes) (k .yes)) v)) s ≡ againstOff (question n ys ns ch table c k) s v
+    aim-off : aimOff (aimAt table k v (has (diff (c .yes) (k .yes)) v)) s ≡ againstOff (maskQuestion n ys ns ch table c k) s v
     unfolding aimOff againstOff reasonsOff yesGoals
     aim-off = refl
 
-    pub against-posed : Posed n ys ns (againstOn (question n ys ns ch table c k) s v) (againstOff (question n ys ns ch table c k) s v)
+    pub against-posed : Posed n ys ns (againstOn (maskQuestion n ys ns ch table c k) s v) (againstOff (maskQuestion n ys ns ch table c k) s v)
     against-posed =
         rw (← aim-on, ← aim-off)
         (aim-posed (aimAt table k v (has (diff (c .yes) (k .yes)) v)) s known-posed (o .below) (o .not-on) (o .not-off))
 
     -- a key has room for it
-    pub against-small : Within s (union (k .yes) (k .no)) → Small (candidateCost (question n ys ns ch table c k) v s) v s
+    pub against-small : Within s (union (k .yes) (k .no)) → Small (candidateCost (maskQuestion n ys ns ch table c k) v s) v s
     unfolding candidateCost
     against-small w =
         record {
@@ -193,14 +193,14 @@ module _ {n : ℕ} {ys ns : List ℕ} {table : List (List ℕ)} {c k : LiteralSe
         }
 
     aim-cost : {ws : List ℕ} → Weighed table (k .yes) (k .no) ws
-        → literalCost table (literalOf v (not (has (diff (c .yes) (k .yes)) v))) + total ws n s ≡ candidateCost (question n ys ns ch table c k) v s
+        → literalCost table (literalOf v (not (has (diff (c .yes) (k .yes)) v))) + total ws n s ≡ candidateCost (maskQuestion n ys ns ch table c k) v s
     unfolding candidateCost aimOn aimOff
     aim-cost {ws} w =
         sym (opposite-cost table ws (k .yes) (k .no) (all-weighed w) n s v (o .below) (o .not-on) (o .not-off) (has (diff (c .yes) (k .yes)) v))
         ∙ ap₂ (λ (a : ℕ) (b : ℕ). setCost table n a b) aim-on aim-off
 
 -- The candidates of one goal.
-pub record Mine (q : Question) (v : ℕ) (t : Pair) : Type 0 where
+pub record Mine (q : Question) (v : ℕ) (t : GoalAndSet) : Type 0 where
   pub same : t .goal ≡ v
   pub picks : Picks q v (t .set)
 
@@ -208,12 +208,12 @@ module _ {n : ℕ} {ys ns : List ℕ} {table : List (List ℕ)} {c k : LiteralSe
     (w : Weighed table (k .yes) (k .no) ws) (v : ℕ) (o : Open n c k v) where
   pub goal-found : {best r : ℕ} → (ch : ℕ)
       → Explored n ys ns ws (aimAt table k v (has (diff (c .yes) (k .yes)) v)) (whole (aimAt table k v (has (diff (c .yes) (k .yes)) v))) best r
-      → Least (Mine (question n ys ns ch table c k) v) (pairKey (question n ys ns ch table c k)) best r
+      → Least (Mine (maskQuestion n ys ns ch table c k) v) (keyOfPair (maskQuestion n ys ns ch table c k)) best r
   unfolding goals yesGoals noGoals
   goal-found ch e = least-same back forth (e .cheapest)
     where
       q : Question
-      q = question n ys ns ch table c k
+      q = maskQuestion n ys ns ch table c k
 
       aim : Aim
       aim = aimAt table k v (has (diff (c .yes) (k .yes)) v)
@@ -221,7 +221,7 @@ module _ {n : ℕ} {ys ns : List ℕ} {table : List (List ℕ)} {c k : LiteralSe
       same-key : (s : ℕ) → keyAt n ws aim s ≡ keyOf (candidateCost q v s) v s
       same-key s = ap (λ (a : ℕ). keyOf a v s) (aim-cost x ch v o s w)
 
-      back : (t : Pair) → Mine q v t → (s : ℕ) × Between (Refutes n ys ns aim) 0 (union (k .yes) (k .no)) s × (keyAt n ws aim s ≡ pairKey q t)
+      back : (t : GoalAndSet) → Mine q v t → (s : ℕ) × InInterval (Refutes n ys ns aim) 0 (union (k .yes) (k .no)) s × (keyAt n ws aim s ≡ keyOfPair q t)
       back t m = (
         t .set,
         record {
@@ -232,7 +232,7 @@ module _ {n : ℕ} {ys ns : List ℕ} {table : List (List ℕ)} {c k : LiteralSe
         same-key (t .set) ∙ ap (λ (g : ℕ). keyOf (candidateCost q g (t .set)) g (t .set)) (sym (m .same)),
       )
 
-      forth : (s : ℕ) → Between (Refutes n ys ns aim) 0 (union (k .yes) (k .no)) s → (t : Pair) × Mine q v t × (pairKey q t ≡ keyAt n ws aim s)
+      forth : (s : ℕ) → InInterval (Refutes n ys ns aim) 0 (union (k .yes) (k .no)) s → (t : GoalAndSet) × Mine q v t × (keyOfPair q t ≡ keyAt n ws aim s)
       forth s b = (
         record { goal = v; set = s },
         record {
@@ -261,7 +261,7 @@ module _ {n : ℕ} {ys ns : List ℕ} {table : List (List ℕ)} {c k : LiteralSe
       all : left ≡ openGoals c k
       all = e ∙ ap₂ (λ (a : ℕ) (b : ℕ). union a b) p q
 
-  pub searching-done : {left best : ℕ} → Searching n ys ns table c k left best → left ≡ 0 → Found n ys ns table c k best
+  pub searching-done : {left best : ℕ} → Searching n ys ns table c k left best → left ≡ 0 → LeastFound n ys ns table c k best
   searching-done {left} {best} s e =
       record {
         cheapest = λ ch.
@@ -293,20 +293,20 @@ module _ {n : ℕ} {ys ns : List ℕ} {table : List (List ℕ)} {c k : LiteralSe
           here : Explored n ys ns ws (aimAt table k v (has (diff (c .yes) (k .yes)) v)) (whole (aimAt table k v (has (diff (c .yes) (k .yes)) v))) best r
           here = rw (b, a, q, searching-open .says) at e
 
-          split : (ch : ℕ) (t : Pair) → Trying (question n ys ns ch table c k) (remove left v) t
-              → Trying (question n ys ns ch table c k) left t ⊎ Mine (question n ys ns ch table c k) v t
+          split : (ch : ℕ) (t : GoalAndSet) → Trying (maskQuestion n ys ns ch table c k) (remove left v) t
+              → Trying (maskQuestion n ys ns ch table c k) left t ⊎ Mine (maskQuestion n ys ns ch table c k) v t
           split ch t h =
               by-cases (ℕ-discrete (t .goal) v)
-              (λ g. inr (record { same = g; picks = subst (λ (u : ℕ). Picks (question n ys ns ch table c k) u (t .set)) g (h .picks) }))
+              (λ g. inr (record { same = g; picks = subst (λ (u : ℕ). Picks (maskQuestion n ys ns ch table c k) u (t .set)) g (h .picks) }))
               (λ g. inl (record { picks = h .picks; tried = sym (bit-remove-other left v (t .goal) g) ∙ h .tried }))
 
-          fewer : (ch : ℕ) (t : Pair) → Trying (question n ys ns ch table c k) left t → Trying (question n ys ns ch table c k) (remove left v) t
+          fewer : (ch : ℕ) (t : GoalAndSet) → Trying (maskQuestion n ys ns ch table c k) left t → Trying (maskQuestion n ys ns ch table c k) (remove left v) t
           fewer ch t h = record { picks = h .picks; tried = omega (arith, h .tried, remove-within left v .keeps (t .goal)) }
 
-          mine : (ch : ℕ) (t : Pair) → Mine (question n ys ns ch table c k) v t → Trying (question n ys ns ch table c k) (remove left v) t
+          mine : (ch : ℕ) (t : GoalAndSet) → Mine (maskQuestion n ys ns ch table c k) v t → Trying (maskQuestion n ys ns ch table c k) (remove left v) t
           mine ch t h =
               record {
-                picks = subst (λ (u : ℕ). Picks (question n ys ns ch table c k) u (t .set)) (sym (h .same)) (h .picks);
+                picks = subst (λ (u : ℕ). Picks (maskQuestion n ys ns ch table c k) u (t .set)) (sym (h .same)) (h .picks);
                 tried = ap (bit (remove left v)) (h .same) ∙ bit-remove-same left v;
               }
 

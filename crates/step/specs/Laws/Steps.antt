@@ -20,7 +20,7 @@ use Rattle.consequence.specs.declared.Consequence.{Consequence}
 use Rattle.consequence.specs.declared.Consequence.the-variants.{NoModel as Contradiction, Forced}
 use Rattle.step.specs.Meaning.{Question, literalOf, yesGoals, noGoals, goals, goalLiteral, reasonsOn, reasonsOff, candidateCost, Candidate, candidate, theStep, nothingLeft, step, newOn, newOff, stepFrom, answerFrom, stepOf}
 use Rattle.step.specs.Cheapest.{least-some}
-use Rattle.step.specs.Contracts.{setRoom, goalRoom, keyOf, Small, question, Ready, Picks, Pair, pairKey, noKey, Found, Reasoned, Learnt, Asked, Chosen, stepAt, answer}
+use Rattle.step.specs.Contracts.{setRoom, goalRoom, keyOf, Small, maskQuestion, Ready, Picks, GoalAndSet, keyOfPair, noKey, LeastFound, Reasoned, Learnt, Asked, Chosen, stepAt, nextOf}
 use Rattle.step.specs.Laws.Order.{upto-key, Decoded, decode, key-below}
 use Rattle.step.specs.Laws.Explores.{reasons-posed}
 use Rattle.step.specs.Laws.Candidates.{Sized, TheStep, the-step}
@@ -28,7 +28,7 @@ use Rattle.step.specs.Laws.Goals.{goal-open, known-posed, against-small}
 use Rattle.step.specs.declared.Next.{Next}
 
 -- The candidate that a key stands for is the step.
-pub record StandsFor (q : Question) (best : ℕ) : Type 0 where
+pub record IsKeyOfStep (q : Question) (best : ℕ) : Type 0 where
   pub picks : Picks q (best / setRoom % goalRoom) (best % setRoom)
   pub taken : theStep q ≡ some (candidate q (best / setRoom % goalRoom) (best % setRoom))
   pub costs : candidateCost q (best / setRoom % goalRoom) (best % setRoom) ≡ best / setRoom / goalRoom
@@ -51,7 +51,7 @@ module _ {n : ℕ} {ys ns : List ℕ} {ch : ℕ} {table : List (List ℕ)} {c k 
       both v = omega (arith, bit-union (c .yes) (c .no) v, a .yes-choices .keeps v, a .no-choices .keeps v)
 
 module _ {n : ℕ} {ys ns : List ℕ} {table : List (List ℕ)} {c k : LiteralSet} (ch : ℕ) (x : Ready n ys ns table c k) where
-  pub ready-sized : Sized (question n ys ns ch table c k)
+  pub ready-sized : Sized (maskQuestion n ys ns ch table c k)
   unfolding goals yesGoals noGoals
   ready-sized =
       record {
@@ -59,17 +59,17 @@ module _ {n : ℕ} {ys ns : List ℕ} {table : List (List ℕ)} {c k : LiteralSe
         known-below = union-lt n (k .yes) (k .no) (known-posed x .on-below) (known-posed x .off-below);
       }
 
-  pub picks-small : (v s : ℕ) → Picks (question n ys ns ch table c k) v s → Small (candidateCost (question n ys ns ch table c k) v s) v s
+  pub picks-small : (v s : ℕ) → Picks (maskQuestion n ys ns ch table c k) v s → Small (candidateCost (maskQuestion n ys ns ch table c k) v s) v s
   unfolding goals yesGoals noGoals
   picks-small v s p = against-small x ch v (goal-open x v (p .goal)) s (p .known)
 
   -- ---- no candidate
 
-  pub none-found : {best : ℕ} → Found n ys ns table c k best → best ≡ noKey → theStep (question n ys ns ch table c k) ≡ none
-  none-found {best} f e = go (theStep (question n ys ns ch table c k)) (the-step (question n ys ns ch table c k) ready-sized)
+  pub none-found : {best : ℕ} → LeastFound n ys ns table c k best → best ≡ noKey → theStep (maskQuestion n ys ns ch table c k) ≡ none
+  none-found {best} f e = go (theStep (maskQuestion n ys ns ch table c k)) (the-step (maskQuestion n ys ns ch table c k) ready-sized)
     where
       q : Question
-      q = question n ys ns ch table c k
+      q = maskQuestion n ys ns ch table c k
 
       go : (o : Option Candidate) → TheStep q o → o ≡ none
       go none t = refl
@@ -82,17 +82,17 @@ module _ {n : ℕ} {ys ns : List ℕ} {table : List (List ℕ)} {c k : LiteralSe
 
   -- ---- the candidate that a key stands for
 
-  pub some-found : {best : ℕ} → Found n ys ns table c k best → (best ≡ noKey → ⊥) → StandsFor (question n ys ns ch table c k) best
+  pub some-found : {best : ℕ} → LeastFound n ys ns table c k best → (best ≡ noKey → ⊥) → IsKeyOfStep (maskQuestion n ys ns ch table c k) best
   unfolding candidate
   some-found {best} f ne = go (theStep q) refl (the-step q ready-sized)
     where
       q : Question
-      q = question n ys ns ch table c k
+      q = maskQuestion n ys ns ch table c k
 
-      least : (t : Pair) × Picks q (t .goal) (t .set) × (best ≡ pairKey q t)
+      least : (t : GoalAndSet) × Picks q (t .goal) (t .set) × (best ≡ keyOfPair q t)
       least = least-some (f .cheapest ch) ne
 
-      go : (o : Option Candidate) → theStep q ≡ o → TheStep q o → StandsFor q best
+      go : (o : Option Candidate) → theStep q ≡ o → TheStep q o → IsKeyOfStep q best
       go none e t = absurd (t (least .0 .goal) (least .0 .set) (least .1))
       go (some d) e t =
           record {
@@ -161,21 +161,21 @@ step-open q e = go (eqb (goals q) 0) (ne-eqb (goals q) 0 e)
 
 module _ {n : ℕ} {ys ns : List ℕ} {ch : ℕ} {table : List (List ℕ)} {c k : LiteralSet} where
   pub answer-nothing : {y z g : ℕ} → Asked n ys ns ch table c k → y ≡ diff (c .yes) (k .yes) → z ≡ diff (c .no) (k .no) → g ≡ union y z → g ≡ 0
-      → Next.NothingLeft ≡ answer (stepOf (question n ys ns ch table c k))
+      → Next.NothingLeft ≡ nextOf (stepOf (maskQuestion n ys ns ch table c k))
   unfolding goals yesGoals noGoals
   answer-nothing a p q e d =
-      sym (ap answer (step-left (question n ys ns ch table c k) (sym (e ∙ ap₂ (λ (u : ℕ) (v : ℕ). union u v) p q) ∙ d)))
+      sym (ap nextOf (step-left (maskQuestion n ys ns ch table c k) (sym (e ∙ ap₂ (λ (u : ℕ) (v : ℕ). union u v) p q) ∙ d)))
 
   pub answer-none : {y z g best : ℕ} → Asked n ys ns ch table c k → y ≡ diff (c .yes) (k .yes) → z ≡ diff (c .no) (k .no) → g ≡ union y z
-      → (g ≡ 0 → ⊥) → Found n ys ns table c k best → best ≡ noKey → Next.NoCandidate ≡ answer (stepOf (question n ys ns ch table c k))
+      → (g ≡ 0 → ⊥) → LeastFound n ys ns table c k best → best ≡ noKey → Next.NoCandidate ≡ nextOf (stepOf (maskQuestion n ys ns ch table c k))
   unfolding goals yesGoals noGoals answerFrom
   answer-none a p q e ne f d =
-      sym (ap answer (step-open (question n ys ns ch table c k) (λ z. ne (e ∙ ap₂ (λ (u : ℕ) (v : ℕ). union u v) p q ∙ z))
-      ∙ ap (answerFrom (question n ys ns ch table c k)) (none-found ch (asked-ready a) f d)))
+      sym (ap nextOf (step-open (maskQuestion n ys ns ch table c k) (λ z. ne (e ∙ ap₂ (λ (u : ℕ) (v : ℕ). union u v) p q ∙ z))
+      ∙ ap (answerFrom (maskQuestion n ys ns ch table c k)) (none-found ch (asked-ready a) f d)))
 
   -- the candidate that the least key stands for
-  module _ {best : ℕ} (a : Asked n ys ns ch table c k) (f : Found n ys ns table c k best) (e : best ≡ noKey → ⊥) where
-    picked : StandsFor (question n ys ns ch table c k) best
+  module _ {best : ℕ} (a : Asked n ys ns ch table c k) (f : LeastFound n ys ns table c k best) (e : best ≡ noKey → ⊥) where
+    picked : IsKeyOfStep (maskQuestion n ys ns ch table c k) best
     picked = some-found ch (asked-ready a) f e
 
     pub answer-chosen : Chosen n ys ns ch k best
@@ -198,12 +198,12 @@ module _ {n : ℕ} {ys ns : List ℕ} {ch : ℕ} {table : List (List ℕ)} {c k 
           cheap = omega (arith, picked .costs, picks-small ch (asked-ready a) _ _ (picked .picks) .cost-small);
         }
 
-    pub answer-step : {r : Next} → r ≡ answer (step (stepAt n ys ns ch c k best)) → r ≡ answer (stepOf (question n ys ns ch table c k))
+    pub answer-step : {r : Next} → r ≡ nextOf (step (stepAt n ys ns ch c k best)) → r ≡ nextOf (stepOf (maskQuestion n ys ns ch table c k))
     unfolding answerFrom stepFrom candidate goalLiteral reasonsOn reasonsOff newOn newOff yesGoals
-    answer-step p = p ∙ sym (ap answer theirs)
+    answer-step p = p ∙ sym (ap nextOf theirs)
       where
         q : Question
-        q = question n ys ns ch table c k
+        q = maskQuestion n ys ns ch table c k
 
         same : candidate q (best / setRoom % goalRoom) (best % setRoom)
             ≡ record { cost = best / setRoom / goalRoom; goal = best / setRoom % goalRoom; reasons = best % setRoom }
@@ -240,7 +240,7 @@ module _ {n : ℕ} {ys ns : List ℕ} {ch best : ℕ} {k : LiteralSet} (x : Chos
   pub chosen-step : (c : LiteralSet) {d a b : ℕ} {says : Bool} {l : Literal} {new : LiteralSet} → d ≡ diff (c .yes) (k .yes)
       → says ≡ has d (best / setRoom % goalRoom) → l ≡ literalOf (best / setRoom % goalRoom) says → a ≡ inter (best % setRoom) (k .yes)
       → b ≡ inter (best % setRoom) (k .no) → Learnt n ys ns ch (record { yes = a; no = b }) k new
-      → Next.Step l (record { yes = a; no = b }) new (best / setRoom / goalRoom) ≡ answer (step (stepAt n ys ns ch c k best))
+      → Next.Step l (record { yes = a; no = b }) new (best / setRoom / goalRoom) ≡ nextOf (step (stepAt n ys ns ch c k best))
   unfolding stepFrom goalLiteral reasonsOn reasonsOff newOn newOff yesGoals
   chosen-step c {d} {a} {b} {says} {l} {new} p q e s t w =
       λ i. Next.Step (goal-is i) (record { yes = s i; no = t i }) (record { yes = yes-is i; no = no-is i }) (best / setRoom / goalRoom)

@@ -20,7 +20,7 @@ use Rattle.consequence.specs.Meaning.{yesForced, noForced, ModelOf, NoModelOf}
 use Rattle.consequence.specs.Laws.Forcing.{Exactly, yes-exactly, no-exactly}
 use Rattle.consequence.specs.Laws.Masks.{theory-assigned, assigned-theory, to-theory}
 use Rattle.step.specs.Meaning.{Question, setCost, literalOf, yesGoals, noGoals, goals, goalLiteral, reasonsOn, reasonsOff, againstOn, againstOff, candidateCost, Candidate, candidate, theStep, Step, nothingLeft, noCandidate, step, newOn, newOff, stepFrom, answerFrom, stepOf}
-use Rattle.step.specs.Contracts.{Picks, Asked, question}
+use Rattle.step.specs.Contracts.{Picks, Asked, maskQuestion}
 use Rattle.step.specs.Laws.Order.{upto-cost}
 use Rattle.step.specs.IsStep.{Sound, oppositeOn, oppositeOff, Goal, Candidature, Upto, placed, New, Gained, IsStep}
 use Rattle.step.specs.Laws.Explores.{opposite}
@@ -323,7 +323,7 @@ module _ (q : Question) (z : Sound q) where
         go false d (some c) t w = let n : _≡_ {A = ℕ} 0 1 = cc in omega arith
 
 -- what `next_step` requires makes sense
-pub asked-sound : {n ch : ℕ} {ys ns : List ℕ} {table : List (List ℕ)} {c k : LiteralSet} → Asked n ys ns ch table c k → Sound (question n ys ns ch table c k)
+pub asked-sound : {n ch : ℕ} {ys ns : List ℕ} {table : List (List ℕ)} {c k : LiteralSet} → Asked n ys ns ch table c k → Sound (maskQuestion n ys ns ch table c k)
 asked-sound a =
     record {
       choices-below = a .choices-below;

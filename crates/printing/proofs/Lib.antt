@@ -1,0 +1,10 @@
+mod DecimalLaws
+mod LeftLaws
+mod LiteralLaws
+mod LineLaws
+mod FieldLaws
+mod ParseLaws
+mod ReadLaws
+mod LogLaws
+mod WalkLaws
+pub mod PrintLaws
