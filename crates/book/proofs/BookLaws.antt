@@ -12,31 +12,31 @@ use Rattle.literals.specs.Literal.{Literal}
 use Rattle.literals.specs.Truth.{yesMask, noMask}
 use Rattle.literals.specs.declared.LiteralSet.{LiteralSet}
 use Rattle.book.specs.Limits.{maxVariables, maxChoices, maxRules}
-use Rattle.book.specs.Format.{Record, says, fails, Read, value, refused, onto, begin, andThen, check, byte, opened, HD, Header, Cost, OrderBook, headerAt, headerValues, many, factsFrom, ruleAt, ended, fromRules}
-use Rattle.book.specs.Answer.{headerAnswer, passedAnswer, rulesAnswer, factsAnswer, bookAnswer, headerOf, masks, padded}
+use Rattle.book.specs.Format.{RecordRead, says, fails, Read, value, refused, withItem, begin, andThen, check, byte, opened, HD, Header, Cost, OrderBook, headerAt, headerValues, many, factsFrom, ruleAt, bookEnds, fromRules}
+use Rattle.book.specs.Answer.{headerAnswer, placeAnswer, rulesAnswer, factsAnswer, bookAnswer, headerOf, masks, padded}
 use Rattle.book.specs.declared.Reading.{Reading}
-use Rattle.book.specs.declared.Outcome.the-variants as Outcome
-use Rattle.book.specs.declared.Passed.{Passed}
-use Rattle.book.specs.declared.Passed.the-variants as Passed
+use Rattle.book.specs.declared.Verdict.the-variants as Verdict
+use Rattle.book.specs.declared.PlaceAfter.{PlaceAfter}
+use Rattle.book.specs.declared.PlaceAfter.the-variants as PlaceAfter
 use Rattle.book.specs.declared.header.HeaderRead.{HeaderRead}
 use Rattle.book.specs.declared.header.HeaderRead.the-variants as HeaderRead
-use Rattle.book.specs.declared.rules.Rules.{Rules}
+use Rattle.book.specs.declared.rules.RulesRead.{RulesRead}
 use Rattle.book.specs.declared.facts.FactsRead.{FactsRead}
 use Rattle.book.specs.declared.facts.FactsRead.the-variants as FactsRead
-use Rattle.book.proofs.CheckLaws.{after-says, check-says, opened-says}
+use Rattle.book.proofs.CheckLaws.{checked-first-says, check-says, opened-says}
 
 -- ---- the header
 
-pub header-fails : (m : Record Header) {r : HeaderRead} {number : ℕ} → r ≡ headerAnswer m → r ≡ HeaderRead.Fails number → m ≡ fails number
+pub header-fails : (m : RecordRead Header) {r : HeaderRead} {number : ℕ} → r ≡ headerAnswer m → r ≡ HeaderRead.Fails number → m ≡ fails number
 unfolding headerAnswer
 header-fails (says h len) e f = let z : _≡_ {A = ℕ} 0 1 = cc in absurd (omega arith)
 header-fails (fails n) e f = cc
 
-pub record HeaderSaid (m : Record Header) (v u n : ℕ) : Type 0 where
+pub record HeaderSaid (m : RecordRead Header) (v u n : ℕ) : Type 0 where
   pub len : ℕ
   pub said : m ≡ says (headerOf v u n) len
 
-pub header-says : (m : Record Header) {r : HeaderRead} {v u n : ℕ} → r ≡ headerAnswer m → r ≡ HeaderRead.Says v u n → HeaderSaid m v u n
+pub header-says : (m : RecordRead Header) {r : HeaderRead} {v u n : ℕ} → r ≡ headerAnswer m → r ≡ HeaderRead.Says v u n → HeaderSaid m v u n
 unfolding headerAnswer
 header-says (says h k) {r} {v} {u} {n} e f =
     record { len = k; said = same (h .variables) (h .choices) (h .rules) (sym e ∙ f) }
@@ -57,7 +57,7 @@ pub record HeaderWhole (s : List ℕ) (h : Header) (len : ℕ) : Type 0 where
 pub header-whole : (s : List ℕ) {h : Header} {len : ℕ} → headerAt s ≡ says h len → HeaderWhole s h len
 unfolding headerAt headerValues
 header-whole s {h} {len} e =
-    let o = after-says (opened HD 5 s) (headerValues s) e in
+    let o = checked-first-says (opened HD 5 s) (headerValues s) e in
     go (leb (byte s 2) maxVariables) (leb (byte s 3) maxChoices) (leb (byte s 3) (byte s 2)) (leb (byte s 4) maxRules) refl refl refl refl (opened-says HD 5 s (o .1)) (o .2)
   where
     go : (a b c d : Bool) → leb (byte s 2) maxVariables ≡ a → leb (byte s 3) maxChoices ≡ b → leb (byte s 3) (byte s 2) ≡ c → leb (byte s 4) maxRules ≡ d → 5 ≤ length s
@@ -79,48 +79,48 @@ header-whole s {h} {len} e =
 -- ---- records in a row
 
 module _ {A : Type 0} where
-  pub passed-refused : (m : Read A) {r : Passed} {number place : ℕ} → r ≡ passedAnswer m → r ≡ Passed.Refused number place → m ≡ refused number place
-  unfolding passedAnswer
-  passed-refused (value a p) e f = let z : _≡_ {A = ℕ} 0 1 = cc in absurd (omega arith)
-  passed-refused (refused n p) e f = cc
+  pub place-refused : (m : Read A) {r : PlaceAfter} {number place : ℕ} → r ≡ placeAnswer m → r ≡ PlaceAfter.Refused number place → m ≡ refused number place
+  unfolding placeAnswer
+  place-refused (value a p) e f = let z : _≡_ {A = ℕ} 0 1 = cc in absurd (omega arith)
+  place-refused (refused n p) e f = cc
 
-  pub passed-to : (m : Read A) {r : Passed} {place : ℕ} → r ≡ passedAnswer m → r ≡ Passed.To place → (a : A) × (m ≡ value a place)
-  unfolding passedAnswer
-  passed-to (value a p) e f = (a, cc)
-  passed-to (refused n p) e f = let z : _≡_ {A = ℕ} 0 1 = cc in absurd (omega arith)
+  pub place-at : (m : Read A) {r : PlaceAfter} {place : ℕ} → r ≡ placeAnswer m → r ≡ PlaceAfter.At place → (a : A) × (m ≡ value a place)
+  unfolding placeAnswer
+  place-at (value a p) e f = (a, cc)
+  place-at (refused n p) e f = let z : _≡_ {A = ℕ} 0 1 = cc in absurd (omega arith)
 
-  onto-value : (a : A) (m : Read (List A)) {items : List A} {place : ℕ} → onto a m ≡ value items place → (rest : List A) × (m ≡ value rest place)
-  onto-value a (value rest p) e = (rest, cc)
-  onto-value a (refused n p) e = let z : _≡_ {A = ℕ} 0 1 = cc in absurd (omega arith)
+  with-item-value : (a : A) (m : Read (List A)) {items : List A} {place : ℕ} → withItem a m ≡ value items place → (rest : List A) × (m ≡ value rest place)
+  with-item-value a (value rest p) e = (rest, cc)
+  with-item-value a (refused n p) e = let z : _≡_ {A = ℕ} 0 1 = cc in absurd (omega arith)
 
   -- records that each lie within the bytes end within them
-  module _ (recordAt : ℕ → List ℕ → Record A) (s : List ℕ) (within : (i : ℕ) (t : List ℕ) (a : A) (len : ℕ) → recordAt i t ≡ says a len → len ≤ length t) where
+  module _ (recordAt : ℕ → List ℕ → RecordRead A) (s : List ℕ) (within : (i : ℕ) (t : List ℕ) (a : A) (len : ℕ) → recordAt i t ≡ says a len → len ≤ length t) where
     pub many-within : (left i from : ℕ) {items : List A} {place : ℕ} → from ≤ length s → many recordAt s left i from ≡ value items place → place ≤ length s
     unfolding many
     many-within zero i from {items} {place} h e = let same : from ≡ place = cc in omega arith
     many-within (suc left) i from {items} {place} h e = go (recordAt i (drop from s)) refl e (λ len rest. many-within left (suc i) (from + len) {items = rest} {place = place})
       where
-        go : (r : Record A) → recordAt i (drop from s) ≡ r → begin from r (λ a next. onto a (many recordAt s left (suc i) next)) ≡ value items place
+        go : (r : RecordRead A) → recordAt i (drop from s) ≡ r → begin from r (λ a next. withItem a (many recordAt s left (suc i) next)) ≡ value items place
             → ((len : ℕ) (rest : List A) → from + len ≤ length s → many recordAt s left (suc i) (from + len) ≡ value rest place → place ≤ length s) → place ≤ length s
         go (fails n) d g ih = let z : _≡_ {A = ℕ} 0 1 = cc in absurd (omega arith)
         go (says a len) d g ih =
-            let m = onto-value a (many recordAt s left (suc i) (from + len)) g in
+            let m = with-item-value a (many recordAt s left (suc i) (from + len)) g in
             ih len (m .0) (omega (arith, simp length-drop at (within i (drop from s) a len d))) (m .1)
 
 -- ---- the rules
 
-pub rules-refused : (m : Read (List (List Literal))) {r : Rules} {number place : ℕ} → r ≡ rulesAnswer m → r .passed ≡ Passed.Refused number place → m ≡ refused number place
+pub rules-refused : (m : Read (List (List Literal))) {r : RulesRead} {number place : ℕ} → r ≡ rulesAnswer m → r .after ≡ PlaceAfter.Refused number place → m ≡ refused number place
 unfolding rulesAnswer
 rules-refused (value rs p) e f = let z : _≡_ {A = ℕ} 0 1 = cc in absurd (omega arith)
 rules-refused (refused n p) e f = cc
 
-pub record RulesSaid (m : Read (List (List Literal))) (r : Rules) (place : ℕ) : Type 0 where
+pub record RulesSaid (m : Read (List (List Literal))) (r : RulesRead) (place : ℕ) : Type 0 where
   pub rules : List (List Literal)
   pub said : m ≡ value rules place
   pub yes-masks : r .yes ≡ padded 0 maxRules (map yesMask rules)
   pub no-masks : r .no ≡ padded 0 maxRules (map noMask rules)
 
-pub rules-say : (m : Read (List (List Literal))) {r : Rules} {place : ℕ} → r ≡ rulesAnswer m → r .passed ≡ Passed.To place → RulesSaid m r place
+pub rules-say : (m : Read (List (List Literal))) {r : RulesRead} {place : ℕ} → r ≡ rulesAnswer m → r .after ≡ PlaceAfter.At place → RulesSaid m r place
 unfolding rulesAnswer
 rules-say (value rs p) e f = record { rules = rs; said = cc; yes-masks = cc; no-masks = cc }
 rules-say (refused n p) e f = let z : _≡_ {A = ℕ} 0 1 = cc in absurd (omega arith)
@@ -149,14 +149,14 @@ unfolding bookAnswer fromRules
 costs-beside s h cs place = go (many (λ i. ruleAt (h .variables)) s (h .rules) 1 place)
   where
     go : (m : Read (List (List Literal)))
-        → bookAnswer (andThen m (λ rules place. andThen (factsFrom s (h .choices) (suc (length s)) 0 place) (λ facts place. ended s place (record { header = h; costs = []; rules = rules; facts = facts }))))
-        ≡ bookAnswer (andThen m (λ rules place. andThen (factsFrom s (h .choices) (suc (length s)) 0 place) (λ facts place. ended s place (record { header = h; costs = cs; rules = rules; facts = facts }))))
+        → bookAnswer (andThen m (λ rules place. andThen (factsFrom s (h .choices) (suc (length s)) 0 place) (λ facts place. bookEnds s place (record { header = h; costs = []; rules = rules; facts = facts }))))
+        ≡ bookAnswer (andThen m (λ rules place. andThen (factsFrom s (h .choices) (suc (length s)) 0 place) (λ facts place. bookEnds s place (record { header = h; costs = cs; rules = rules; facts = facts }))))
     go (refused n p) = refl
     go (value rs p) = more (factsFrom s (h .choices) (suc (length s)) 0 p)
       where
         more : (f : Read (List Literal))
-            → bookAnswer (andThen f (λ facts place. ended s place (record { header = h; costs = []; rules = rs; facts = facts })))
-            ≡ bookAnswer (andThen f (λ facts place. ended s place (record { header = h; costs = cs; rules = rs; facts = facts })))
+            → bookAnswer (andThen f (λ facts place. bookEnds s place (record { header = h; costs = []; rules = rs; facts = facts })))
+            ≡ bookAnswer (andThen f (λ facts place. bookEnds s place (record { header = h; costs = cs; rules = rs; facts = facts })))
         more (refused n q) = refl
         more (value fs q) = end (ltb q (length s))
           where
@@ -168,7 +168,7 @@ costs-beside s h cs place = go (many (λ i. ruleAt (h .variables)) s (h .rules) 
 -- the book that is kept, from its parts
 pub accepted : (v u r end : ℕ) (rs : List (List Literal)) (fs : List Literal) {y n : List ℕ} {two : LiteralSet}
     → y ≡ padded 0 maxRules (map yesMask rs) → n ≡ padded 0 maxRules (map noMask rs) → two ≡ masks fs
-    → record { outcome = Outcome.Accepted; book = record { variables = v; choices = u; rules = r; yes = y; no = n; «facts_yes» = two .yes; «facts_no» = two .no } }
+    → record { verdict = Verdict.Accepted; book = record { variables = v; choices = u; rules = r; yes = y; no = n; «facts_yes» = two .yes; «facts_no» = two .no } }
     ≡ bookAnswer (value (record { header = headerOf v u r; costs = []; rules = rs; facts = fs }) end)
 unfolding bookAnswer
 accepted v u r end rs fs a b c = rw (a, b, c) refl

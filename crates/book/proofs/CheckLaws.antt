@@ -8,7 +8,7 @@ use native.Mathlib.Omega.{arith}
 use borrow.Author.Tests.{leb-true, not-true, not-false}
 use lib.Dec.{leb, eqb}
 use lib.ListN.{length}
-use Rattle.book.specs.Format.{Record, says, fails, check, after, opened, marked, byte, pair, isCost, Cost, CS, costAt, costValues}
+use Rattle.book.specs.Format.{RecordRead, says, fails, check, checkedFirst, opened, marked, byte, pair, isCost, Cost, CS, costAt, costValues}
 use Rattle.book.specs.Answer.{checkAnswer, costAnswer}
 use Rattle.book.specs.declared.costs.CostRead.{CostRead}
 use Rattle.book.specs.declared.costs.CostRead.the-variants as CostRead
@@ -17,23 +17,23 @@ use Rattle.book.specs.declared.mark.Check.the-variants.{Passes, Fails}
 
 module _ {A : Type 0} where
   -- checks that fail decide the record
-  pub decided : (o : Record (Unit {0})) (rest : Record A) {r : Check} {number : ℕ} → r ≡ checkAnswer o → r ≡ Fails number → after o rest ≡ fails number
+  pub decided : (o : RecordRead (Unit {0})) (rest : RecordRead A) {r : Check} {number : ℕ} → r ≡ checkAnswer o → r ≡ Fails number → checkedFirst o rest ≡ fails number
   unfolding checkAnswer
   decided (says u len) rest e f = let z : _≡_ {A = ℕ} 0 1 = cc in absurd (omega arith)
   decided (fails n) rest e f = cc
 
   -- checks that pass leave it to the rest
-  pub passed : (o : Record (Unit {0})) (rest : Record A) {r : Check} → r ≡ checkAnswer o → r ≡ Passes → after o rest ≡ rest
+  pub passed : (o : RecordRead (Unit {0})) (rest : RecordRead A) {r : Check} → r ≡ checkAnswer o → r ≡ Passes → checkedFirst o rest ≡ rest
   unfolding checkAnswer
   passed (says u len) rest e f = refl
   passed (fails n) rest e f = let z : _≡_ {A = ℕ} 0 1 = cc in absurd (omega arith)
 
   -- where a record says something, each of its checks has passed
-  pub after-says : (o : Record (Unit {0})) (rest : Record A) {a : A} {len : ℕ} → after o rest ≡ says a len → (size : ℕ) × (o ≡ says tt size) × (rest ≡ says a len)
-  after-says (says u size) rest e = (size, refl, e)
-  after-says (fails n) rest e = let z : _≡_ {A = ℕ} 0 1 = cc in absurd (omega arith)
+  pub checked-first-says : (o : RecordRead (Unit {0})) (rest : RecordRead A) {a : A} {len : ℕ} → checkedFirst o rest ≡ says a len → (size : ℕ) × (o ≡ says tt size) × (rest ≡ says a len)
+  checked-first-says (says u size) rest e = (size, refl, e)
+  checked-first-says (fails n) rest e = let z : _≡_ {A = ℕ} 0 1 = cc in absurd (omega arith)
 
-  pub check-says : (b : Bool) (number : ℕ) (rest : Record A) {a : A} {len : ℕ} → check b number rest ≡ says a len → (b ≡ true) × (rest ≡ says a len)
+  pub check-says : (b : Bool) (number : ℕ) (rest : RecordRead A) {a : A} {len : ℕ} → check b number rest ≡ says a len → (b ≡ true) × (rest ≡ says a len)
   check-says true number rest e = (refl, e)
   check-says false number rest e = let z : _≡_ {A = ℕ} 0 1 = cc in absurd (omega arith)
 
@@ -49,7 +49,7 @@ pub whole : (mark : List ℕ) (size : ℕ) (s : List ℕ) {r : Check} → r ≡ 
 unfolding checkAnswer
 whole mark size s {r} e f = go (opened mark size s) refl e
   where
-    go : (o : Record (Unit {0})) → opened mark size s ≡ o → r ≡ checkAnswer o → size ≤ length s
+    go : (o : RecordRead (Unit {0})) → opened mark size s ≡ o → r ≡ checkAnswer o → size ≤ length s
     go (says tt k) d h = opened-says mark size s d
     go (fails n) d h = let z : _≡_ {A = ℕ} 0 1 = cc in absurd (omega arith)
 
@@ -72,19 +72,19 @@ pub field-yes : (s : List ℕ) (i : ℕ) {n : ℕ} {r : Bool} → n ≡ pair s i
 field-yes s i {n} {r} e d t = let f : r ≡ true = not-false r t in cc
 
 -- the answer of a CS record, taken back
-pub cost-fails : (m : Record Cost) {r : CostRead} {number : ℕ} → r ≡ costAnswer m → r ≡ CostRead.Fails number → m ≡ fails number
+pub cost-fails : (m : RecordRead Cost) {r : CostRead} {number : ℕ} → r ≡ costAnswer m → r ≡ CostRead.Fails number → m ≡ fails number
 unfolding costAnswer
 cost-fails (says a len) e f = let z : _≡_ {A = ℕ} 0 1 = cc in absurd (omega arith)
 cost-fails (fails n) e f = cc
 
-pub record CostSaid (m : Record Cost) (y n : ℕ) : Type 0 where
+pub record CostSaid (m : RecordRead Cost) (y n : ℕ) : Type 0 where
   pub cost : Cost
   pub len : ℕ
   pub said : m ≡ says cost len
   pub yes-cost : cost .ofYes ≡ y
   pub no-cost : cost .ofNo ≡ n
 
-pub cost-says : (m : Record Cost) {r : CostRead} {y n : ℕ} → r ≡ costAnswer m → r ≡ CostRead.Says y n → CostSaid m y n
+pub cost-says : (m : RecordRead Cost) {r : CostRead} {y n : ℕ} → r ≡ costAnswer m → r ≡ CostRead.Says y n → CostSaid m y n
 unfolding costAnswer
 cost-says (says a len) e f = record { cost = a; len = len; said = refl; yes-cost = cc; no-cost = cc }
 cost-says (fails n) e f = let z : _≡_ {A = ℕ} 0 1 = cc in absurd (omega arith)
@@ -93,7 +93,7 @@ cost-says (fails n) e f = let z : _≡_ {A = ℕ} 0 1 = cc in absurd (omega arit
 pub cost-size : (due : ℕ) (s : List ℕ) {a : Cost} {len : ℕ} → costAt due s ≡ says a len → (len ≡ 7) × (7 ≤ length s)
 unfolding costAt costValues
 cost-size due s {a} {len} e =
-    let o = after-says (opened CS 7 s) (costValues due s) e in
+    let o = checked-first-says (opened CS 7 s) (costValues due s) e in
     (go (eqb (byte s 2) due) (isCost (pair s 3)) (isCost (pair s 5)) (o .2), opened-says CS 7 s (o .1))
   where
     go : (x y z : Bool) → check x 4 (check y 4 (check z 4 (says (record { ofYes = pair s 3; ofNo = pair s 5 }) 7))) ≡ says a len → len ≡ 7

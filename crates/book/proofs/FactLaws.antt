@@ -12,12 +12,13 @@ use lib.IntN.{pos, negsuc}
 use mir.Syntax.{w8}
 use mir.Val.{toZ, ofZ}
 use mir.Facts.{toZ-ofZ}
+use Rattle.sets.specs.Sets.{width}
 use Rattle.literals.specs.Literal.{Literal, variable, ofByte}
 use Rattle.literals.specs.Truth.{yesMask, noMask}
-use Rattle.literals.specs.Grown.{Grown}
+use Rattle.literals.specs.WithLiteral.{WithLiteral}
 use Rattle.literals.specs.Laws.{yesMask-snoc, noMask-snoc}
 use Rattle.literals.specs.declared.LiteralSet.{LiteralSet}
-use Rattle.book.specs.Format.{Record, says, fails, Read, value, refused, onto, begin, check, byte, opened, rising, FA, EN, factAt, factValues, atFact, endAt, factsFrom}
+use Rattle.book.specs.Format.{RecordRead, says, fails, Read, value, refused, withItem, begin, check, byte, opened, rising, FA, EN, factAt, factValues, atFact, endAt, factsFrom}
 use Rattle.book.specs.Answer.{checkAnswer, factAnswer, factsAnswer, masks}
 use Rattle.book.specs.declared.mark.Check.{Check}
 use Rattle.book.specs.declared.mark.Check.the-variants as Check
@@ -25,7 +26,7 @@ use Rattle.book.specs.declared.facts.FactRead.{FactRead}
 use Rattle.book.specs.declared.facts.FactRead.the-variants as FactRead
 use Rattle.book.specs.declared.facts.FactsRead.{FactsRead}
 use Rattle.book.specs.declared.facts.FactsRead.the-variants as FactsRead
-use Rattle.book.proofs.CheckLaws.{after-says, check-says, opened-says, passes-says}
+use Rattle.book.proofs.CheckLaws.{checked-first-says, check-says, opened-says, passes-says}
 use Rattle.book.proofs.ManyLaws.{prefixed, prefixed-snoc, prefixed-refused, prefixed-value}
 
 -- ---- one literal that must rise
@@ -70,7 +71,7 @@ pub record FactWhole (u last : ℕ) (s : List ℕ) (l : Literal) (len : ℕ) : T
 pub fact-whole : (u last : ℕ) (s : List ℕ) {l : Literal} {len : ℕ} → factAt u last s ≡ says l len → FactWhole u last s l len
 unfolding factAt factValues
 fact-whole u last s {l} {len} e =
-    let o = after-says (opened FA 3 s) (factValues u last s) e in
+    let o = checked-first-says (opened FA 3 s) (factValues u last s) e in
     let v = check-says (rising u last (ofByte (byte s 2) ∷ [])) 6 (says (ofByte (byte s 2)) 3) (o .2) in
     let same : ofByte (byte s 2) ≡ l = literal (v .1) in
     record { size = three (v .1); within = opened-says FA 3 s (o .1); rises = rw same at (risen u last (ofByte (byte s 2)) (v .0)) }
@@ -82,16 +83,16 @@ fact-whole u last s {l} {len} e =
     three g = cc
 
 -- the answer of an FA record, taken back
-pub fact-fails : (m : Record Literal) {r : FactRead} {number : ℕ} → r ≡ factAnswer m → r ≡ FactRead.Fails number → m ≡ fails number
+pub fact-fails : (m : RecordRead Literal) {r : FactRead} {number : ℕ} → r ≡ factAnswer m → r ≡ FactRead.Fails number → m ≡ fails number
 unfolding factAnswer
 fact-fails (says l len) e f = let z : _≡_ {A = ℕ} 0 1 = cc in absurd (omega arith)
 fact-fails (fails n) e f = cc
 
-pub record FactSaid (m : Record Literal) (l : Literal) : Type 0 where
+pub record FactSaid (m : RecordRead Literal) (l : Literal) : Type 0 where
   pub len : ℕ
   pub said : m ≡ says l len
 
-pub fact-says : (m : Record Literal) {r : FactRead} {l : Literal} → r ≡ factAnswer m → r ≡ FactRead.Says l → FactSaid m l
+pub fact-says : (m : RecordRead Literal) {r : FactRead} {l : Literal} → r ≡ factAnswer m → r ≡ FactRead.Says l → FactSaid m l
 unfolding factAnswer
 fact-says (says l k) e f = record { len = k; said = cc }
 fact-says (fails n) e f = let z : _≡_ {A = ℕ} 0 1 = cc in absurd (omega arith)
@@ -117,22 +118,22 @@ module _ (s : List ℕ) (u from : ℕ) where
     turn : g .turns ≡ suc (g .turns - 1)
     turn = omega (arith, g .enough, g .within)
 
-    pub facts-more : {set′ : LiteralSet} (l : Literal) → atFact (drop place s) ≡ true → FactSaid (factAt u last (drop place s)) l → Grown set l set′ → FactsSoFar set′ (variable l) (place + 3)
+    pub facts-more : {set′ : LiteralSet} (l : Literal) → atFact (drop place s) ≡ true → FactSaid (factAt u last (drop place s)) l → WithLiteral set l set′ → FactsSoFar set′ (variable l) (place + 3)
     unfolding factsFrom
     facts-more l a m w =
         let z = fact-whole u last (drop place s) (m .said) in
-        let step : factsFrom s u (g .turns) last place ≡ onto l (factsFrom s u (g .turns - 1) (variable l) (place + 3)) = rw (z .size) at (one (g .turns - 1) turn) in
+        let step : factsFrom s u (g .turns) last place ≡ withItem l (factsFrom s u (g .turns - 1) (variable l) (place + 3)) = rw (z .size) at (one (g .turns - 1) turn) in
         record {
           done = g .done ++ (l ∷ []);
           turns = g .turns - 1;
           so-far = g .so-far ∙ ap (prefixed (g .done)) step ∙ sym (prefixed-snoc (g .done) l _);
           enough = omega (arith, turn, g .enough);
-          yes-set = w .yes-grown ∙ rw (g .yes-set) (sym (yesMask-snoc (g .done) l));
-          no-set = w .no-grown ∙ rw (g .no-set) (sym (noMask-snoc (g .done) l));
+          yes-set = w .yes-with ∙ rw (g .yes-set) (sym (yesMask-snoc (g .done) l));
+          no-set = w .no-with ∙ rw (g .no-set) (sym (noMask-snoc (g .done) l));
           within = omega (arith, g .within, simp length-drop at (z .within));
         }
       where
-        one : (t : ℕ) → g .turns ≡ suc t → factsFrom s u (g .turns) last place ≡ onto l (factsFrom s u t (variable l) (place + m .len))
+        one : (t : ℕ) → g .turns ≡ suc t → factsFrom s u (g .turns) last place ≡ withItem l (factsFrom s u t (variable l) (place + m .len))
         one t e = rw (e, a, m .said) refl
 
     pub facts-refused : (number : ℕ) → atFact (drop place s) ≡ true → factAt u last (drop place s) ≡ fails number
@@ -152,7 +153,7 @@ module _ (s : List ℕ) (u from : ℕ) where
     unfolding factsAnswer endAt checkAnswer
     end-refused {r} {number} a e f = rw (g .so-far, last-turn a) (go (opened EN 2 (drop place s)) e)
       where
-        go : (o : Record (Unit {0})) → r ≡ checkAnswer o → FactsRead.Refused number place ≡ factsAnswer (prefixed (g .done) (begin place o (λ e next. value [] next)))
+        go : (o : RecordRead (Unit {0})) → r ≡ checkAnswer o → FactsRead.Refused number place ≡ factsAnswer (prefixed (g .done) (begin place o (λ e next. value [] next)))
         go (says v k) h = let z : _≡_ {A = ℕ} 0 1 = cc in absurd (omega arith)
         go (fails n) h = let same : n ≡ number = cc in rw (same, prefixed-refused (g .done) number place) refl
 
@@ -164,7 +165,7 @@ module _ (s : List ℕ) (u from : ℕ) where
         (ap (λ t. FactsRead.Says t (place + 2)) (ap₂ (λ y n. record { yes = y; no = n }) (g .yes-set) (g .no-set)))
 
 -- a literal over few variables is the signed byte that it was handed over as
-pub handed : (l : Literal) → variable l ≤ 64 → toZ w8 (ofZ w8 l) ≡ l
+pub handed : (l : Literal) → variable l ≤ width → toZ w8 (ofZ w8 l) ≡ l
 unfolding variable
 handed (pos v) h = toZ-ofZ {w = w8} {z = pos v} (record { sfits = omega arith })
 handed (negsuc v) h = toZ-ofZ {w = w8} {z = negsuc v} (record { sfits = omega arith })
@@ -175,12 +176,12 @@ unfolding factsFrom
 facts-enough s u zero last place h l = absurd (omega arith)
 facts-enough s u (suc turns) last place h l = go (atFact (drop place s)) (factAt u last (drop place s)) refl (λ v p a b. facts-enough s u turns v p a b)
   where
-    go : (a : Bool) (r : Record Literal) → factAt u last (drop place s) ≡ r
+    go : (a : Bool) (r : RecordRead Literal) → factAt u last (drop place s) ≡ r
         → ((v p : ℕ) → p ≤ length s → length s < turns + p → factsFrom s u (suc turns) v p ≡ factsFrom s u turns v p)
-        → cond a (begin place r (λ l next. onto l (factsFrom s u (suc turns) (variable l) next))) (begin place (endAt (drop place s)) (λ e next. value [] next))
-        ≡ cond a (begin place r (λ l next. onto l (factsFrom s u turns (variable l) next))) (begin place (endAt (drop place s)) (λ e next. value [] next))
+        → cond a (begin place r (λ l next. withItem l (factsFrom s u (suc turns) (variable l) next))) (begin place (endAt (drop place s)) (λ e next. value [] next))
+        ≡ cond a (begin place r (λ l next. withItem l (factsFrom s u turns (variable l) next))) (begin place (endAt (drop place s)) (λ e next. value [] next))
     go false r d ih = refl
     go true (fails n) d ih = refl
     go true (says x len) d ih =
         let z = fact-whole u last (drop place s) d in
-        ap (onto x) (ih (variable x) (place + len) (omega (arith, z .size, simp length-drop at (z .within))) (omega (arith, z .size)))
+        ap (withItem x) (ih (variable x) (place + len) (omega (arith, z .size, simp length-drop at (z .within))) (omega (arith, z .size)))

@@ -13,7 +13,7 @@ use lib.Seq.{take-suc, drop-cons, take-all}
 use Rattle.sets.specs.Sets.{union}
 use Rattle.literals.specs.Literal.{Literal, variable, ofByte}
 use Rattle.literals.specs.Truth.{yesMask, noMask, yesBit, noBit}
-use Rattle.literals.specs.Grown.{Grown}
+use Rattle.literals.specs.WithLiteral.{WithLiteral}
 use Rattle.literals.specs.Laws.{yesMask-snoc, noMask-snoc}
 use Rattle.literals.specs.declared.LiteralSet.{LiteralSet}
 use Rattle.book.specs.Format.{rising}
@@ -47,11 +47,11 @@ module _ (n : ℕ) (s : List ℕ) where
   next-one last i h = rw (add-one, drop-cons s i 0 h) refl
 
   module _ {set : LiteralSet} {last i : ℕ} (g : Gathered set last i) (h : i < length s) where
-    pub gathered-more : {set′ : LiteralSet} (l : Literal) → l ≡ ofByte (getD s i 0) → last < variable l → variable l ≤ n → Grown set l set′ → Gathered set′ (variable l) (i + 1)
+    pub gathered-more : {set′ : LiteralSet} (l : Literal) → l ≡ ofByte (getD s i 0) → last < variable l → variable l ≤ n → WithLiteral set l set′ → Gathered set′ (variable l) (i + 1)
     gathered-more l e low high w = record {
       risen = g .risen ∙ next-one last i h ∙ rw (← e, lt-ltb _ _ low, le-leb _ _ high) refl;
-      yes-set = w .yes-grown ∙ rw (g .yes-set, e) (sym (rw (read-one i h) (yesMask-snoc _ _)));
-      no-set = w .no-grown ∙ rw (g .no-set, e) (sym (rw (read-one i h) (noMask-snoc _ _)));
+      yes-set = w .yes-with ∙ rw (g .yes-set, e) (sym (rw (read-one i h) (yesMask-snoc _ _)));
+      no-set = w .no-with ∙ rw (g .no-set, e) (sym (rw (read-one i h) (noMask-snoc _ _)));
       upto = omega arith;
     }
 

@@ -8,27 +8,27 @@ use native.Mathlib.Numerals.{add-one}
 use native.Mathlib.Omega.{arith}
 use lib.ListN.{length, take, drop, length-append, length-drop}
 use lib.Seq.{take-all}
-use Rattle.book.specs.Format.{Record, says, fails, Read, value, refused, onto, many}
+use Rattle.book.specs.Format.{RecordRead, says, fails, Read, value, refused, withItem, many}
 
 module _ {A : Type 0} where
   -- items that were read before the others
   abbrev pub prefixed : List A → Read (List A) → Read (List A)
   prefixed [] r = r
-  prefixed (a ∷ done) r = onto a (prefixed done r)
+  prefixed (a ∷ done) r = withItem a (prefixed done r)
 
-  pub prefixed-snoc : (done : List A) (a : A) (r : Read (List A)) → prefixed (done ++ (a ∷ [])) r ≡ prefixed done (onto a r)
+  pub prefixed-snoc : (done : List A) (a : A) (r : Read (List A)) → prefixed (done ++ (a ∷ [])) r ≡ prefixed done (withItem a r)
   prefixed-snoc [] a r = refl
-  prefixed-snoc (x ∷ done) a r = ap (onto x) (prefixed-snoc done a r)
+  prefixed-snoc (x ∷ done) a r = ap (withItem x) (prefixed-snoc done a r)
 
   pub prefixed-refused : (done : List A) (number place : ℕ) → prefixed done (refused number place) ≡ refused number place
   prefixed-refused [] number place = refl
-  prefixed-refused (x ∷ done) number place = ap (onto x) (prefixed-refused done number place)
+  prefixed-refused (x ∷ done) number place = ap (withItem x) (prefixed-refused done number place)
 
   pub prefixed-value : (done : List A) (place : ℕ) → prefixed done (value [] place) ≡ value done place
   prefixed-value [] place = refl
-  prefixed-value (x ∷ done) place = ap (onto x) (prefixed-value done place)
+  prefixed-value (x ∷ done) place = ap (withItem x) (prefixed-value done place)
 
-module _ {A : Type 0} (recordAt : ℕ → List ℕ → Record A) (s : List ℕ) (total from : ℕ) where
+module _ {A : Type 0} (recordAt : ℕ → List ℕ → RecordRead A) (s : List ℕ) (total from : ℕ) where
   -- after i of the records: those read, and the place of the next
   pub record Walked (done : List A) (i place : ℕ) : Type 0 where
     pub counted : length done ≡ i
@@ -44,7 +44,7 @@ module _ {A : Type 0} (recordAt : ℕ → List ℕ → Record A) (s : List ℕ) 
   unfolding many
   walked-more {done} {i} {place} a len w l e f =
       let left : total - i ≡ suc (total - (i + 1)) = omega arith in
-      let step : many recordAt s (total - i) (suc i) place ≡ onto a (many recordAt s (total - (i + 1)) (suc (i + 1)) (place + len)) =
+      let step : many recordAt s (total - i) (suc i) place ≡ withItem a (many recordAt s (total - (i + 1)) (suc (i + 1)) (place + len)) =
       rw (left, ← (add-one i), e) refl in
       record {
         counted = length-append (done) (a ∷ []) ∙ ap (λ n. n + 1) (w .counted);

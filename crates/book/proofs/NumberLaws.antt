@@ -7,10 +7,10 @@ use Prim.Native.Nat.{ℕ, zero, suc, _≤_}
 use native.Mathlib.Omega.{arith}
 use borrow.Author.Tests.{leb-true}
 use lib.Dec.{leb}
-use Rattle.book.specs.Format.{Record, says, fails, Read, value, refused, check, after, begin, andThen, onto, OrderBook, opened, headerValues, headerAt, costValues, costAt, ruleValues, ruleAt, factValues, factAt, endAt, many, factsFrom, fromRules, readBook}
+use Rattle.book.specs.Format.{RecordRead, says, fails, Read, value, refused, check, checkedFirst, begin, andThen, withItem, OrderBook, opened, headerValues, headerAt, costValues, costAt, ruleValues, ruleAt, factValues, factAt, endAt, many, factsFrom, fromRules, readBook}
 
 -- A record that says something, or fails with a number from 1 to 7. The bounds are tests, so that `refl` proves them of a numeral.
-data Numbered {A : Type 0} : Record A → Type 0 where
+data Numbered {A : Type 0} : RecordRead A → Type 0 where
   speaks : {a : A} {len : ℕ} → Numbered (says a len)
   fails-with : {number : ℕ} → leb 1 number ≡ true → leb number 7 ≡ true → Numbered (fails number)
 
@@ -22,24 +22,24 @@ data AllNumbered {A : Type 0} : Read A → Type 0 where
 -- ---- what keeps to the numbers
 
 module _ {A : Type 0} where
-  check-numbered : (b : Bool) (number : ℕ) {rest : Record A} → leb 1 number ≡ true → leb number 7 ≡ true → Numbered rest → Numbered (check b number rest)
+  check-numbered : (b : Bool) (number : ℕ) {rest : RecordRead A} → leb 1 number ≡ true → leb number 7 ≡ true → Numbered rest → Numbered (check b number rest)
   check-numbered true number l m r = r
   check-numbered false number l m r = fails-with l m
 
-  after-numbered : {first : Record (Unit {0})} {rest : Record A} → Numbered first → Numbered rest → Numbered (after first rest)
-  after-numbered speaks r = r
-  after-numbered (fails-with l m) r = fails-with l m
+  checked-first-numbered : {first : RecordRead (Unit {0})} {rest : RecordRead A} → Numbered first → Numbered rest → Numbered (checkedFirst first rest)
+  checked-first-numbered speaks r = r
+  checked-first-numbered (fails-with l m) r = fails-with l m
 
-  onto-numbered : (a : A) {rest : Read (List A)} → AllNumbered rest → AllNumbered (onto a rest)
-  onto-numbered a is-read = is-read
-  onto-numbered a (refused-with l m) = refused-with l m
+  with-item-numbered : (a : A) {rest : Read (List A)} → AllNumbered rest → AllNumbered (withItem a rest)
+  with-item-numbered a is-read = is-read
+  with-item-numbered a (refused-with l m) = refused-with l m
 
   cond-numbered : (b : Bool) {x y : Read A} → AllNumbered x → AllNumbered y → AllNumbered (cond b x y)
   cond-numbered true p q = p
   cond-numbered false p q = q
 
 module _ {A B : Type 0} where
-  begin-numbered : (place : ℕ) {r : Record A} {next : A → ℕ → Read B} → Numbered r → ((a : A) (p : ℕ) → AllNumbered (next a p)) → AllNumbered (begin place r next)
+  begin-numbered : (place : ℕ) {r : RecordRead A} {next : A → ℕ → Read B} → Numbered r → ((a : A) (p : ℕ) → AllNumbered (next a p)) → AllNumbered (begin place r next)
   begin-numbered place speaks f = f _ _
   begin-numbered place (fails-with l m) f = refused-with l m
 
@@ -47,7 +47,7 @@ module _ {A B : Type 0} where
   then-numbered is-read f = f _ _
   then-numbered (refused-with l m) f = refused-with l m
 
-ruleset steps = (speaks, is-read, refused-with, check-numbered, after-numbered, onto-numbered, cond-numbered, begin-numbered, then-numbered)
+ruleset steps = (speaks, is-read, refused-with, check-numbered, checked-first-numbered, with-item-numbered, cond-numbered, begin-numbered, then-numbered)
 
 -- ---- the records
 
@@ -65,7 +65,7 @@ rule-numbered n s = search (opened-numbered, steps) depth 6
 
 -- ---- the book
 
-module _ {A : Type 0} (recordAt : ℕ → List ℕ → Record A) (s : List ℕ) (each : (i : ℕ) (t : List ℕ) → Numbered (recordAt i t)) where
+module _ {A : Type 0} (recordAt : ℕ → List ℕ → RecordRead A) (s : List ℕ) (each : (i : ℕ) (t : List ℕ) → Numbered (recordAt i t)) where
   many-numbered : (left i place : ℕ) → AllNumbered (many recordAt s left i place)
   unfolding many
   many-numbered zero i place = is-read

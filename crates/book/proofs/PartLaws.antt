@@ -8,10 +8,10 @@ use native.Mathlib.Omega.{arith}
 use lib.Dec.{ltb}
 use lib.ListN.{length}
 use Rattle.literals.specs.Literal.{Literal}
-use Rattle.book.specs.Format.{Record, says, fails, Read, value, refused, begin, andThen, Header, Cost, OrderBook, headerAt, costAt, ruleAt, many, factsFrom, ended, fromRules, readBook}
-use Rattle.book.specs.Answer.{bookAnswer, kept}
+use Rattle.book.specs.Format.{RecordRead, says, fails, Read, value, refused, begin, andThen, Header, Cost, OrderBook, headerAt, costAt, ruleAt, many, factsFrom, bookEnds, fromRules, readBook}
+use Rattle.book.specs.Answer.{bookAnswer, maskedBook}
 use Rattle.book.specs.declared.Reading.{Reading}
-use Rattle.book.specs.declared.Outcome.the-variants as Outcome
+use Rattle.book.specs.declared.Verdict.the-variants as Verdict
 use Rattle.book.proofs.BookLaws.{HeaderWhole, header-whole}
 
 pub record Parts (s : List ℕ) (b : OrderBook) : Type 0 where
@@ -40,13 +40,13 @@ module _ (s : List ℕ) {b : OrderBook} {end : ℕ} where
 
       with-facts : (h : Header) (cs : List Cost) (rs : List (List Literal)) (p q : ℕ) (m : Read (List Literal)) → factsFrom s (h .choices) (suc (length s)) 0 q ≡ m → headerAt s ≡ says h 5 → HeaderWhole s h 5
           → many costAt s (h .choices) 1 5 ≡ value cs p → many (λ i. ruleAt (h .variables)) s (h .rules) 1 p ≡ value rs q
-          → andThen m (λ facts place. ended s place (record { header = h; costs = cs; rules = rs; facts = facts })) ≡ value b end → Parts s b
+          → andThen m (λ facts place. bookEnds s place (record { header = h; costs = cs; rules = rs; facts = facts })) ≡ value b end → Parts s b
       with-facts h cs rs p q (refused n t) d x w y z g = let k : _≡_ {A = ℕ} 0 1 = cc in absurd (omega arith)
       with-facts h cs rs p q (value fs r) d x w y z g = finish h cs rs fs p q r (ltb r (length s)) x w y z d g
 
       with-rules : (h : Header) (cs : List Cost) (p : ℕ) (m : Read (List (List Literal))) → many (λ i. ruleAt (h .variables)) s (h .rules) 1 p ≡ m → headerAt s ≡ says h 5 → HeaderWhole s h 5
           → many costAt s (h .choices) 1 5 ≡ value cs p
-          → andThen m (λ rules place. andThen (factsFrom s (h .choices) (suc (length s)) 0 place) (λ facts place. ended s place (record { header = h; costs = cs; rules = rules; facts = facts }))) ≡ value b end → Parts s b
+          → andThen m (λ rules place. andThen (factsFrom s (h .choices) (suc (length s)) 0 place) (λ facts place. bookEnds s place (record { header = h; costs = cs; rules = rules; facts = facts }))) ≡ value b end → Parts s b
       with-rules h cs p (refused n t) d x w y g = let k : _≡_ {A = ℕ} 0 1 = cc in absurd (omega arith)
       with-rules h cs p (value rs q) d x w y g = with-facts h cs rs p q (factsFrom s (h .choices) (suc (length s)) 0 q) refl x w y d g
 
@@ -55,7 +55,7 @@ module _ (s : List ℕ) {b : OrderBook} {end : ℕ} where
       with-costs h (refused n t) d x w g = let k : _≡_ {A = ℕ} 0 1 = cc in absurd (omega arith)
       with-costs h (value cs p) d x w g = with-rules h cs p (many (λ i. ruleAt (h .variables)) s (h .rules) 1 p) refl x w d g
 
-      with-header : (r : Record Header) → headerAt s ≡ r → begin 0 r (λ h place. andThen (many costAt s (h .choices) 1 place) (λ costs place. fromRules s h costs place)) ≡ value b end → Parts s b
+      with-header : (r : RecordRead Header) → headerAt s ≡ r → begin 0 r (λ h place. andThen (many costAt s (h .choices) 1 place) (λ costs place. fromRules s h costs place)) ≡ value b end → Parts s b
       with-header (fails n) d g = let k : _≡_ {A = ℕ} 0 1 = cc in absurd (omega arith)
       with-header (says h len) d g =
           let w = header-whole s d in
@@ -68,14 +68,14 @@ pub record BookSaid (m : Read OrderBook) (r : Reading) : Type 0 where
   pub book : OrderBook
   pub end : ℕ
   pub said : m ≡ value book end
-  pub keeps : r .book ≡ kept book
+  pub keeps : r .book ≡ maskedBook book
 
-pub book-says : (m : Read OrderBook) {r : Reading} → r ≡ bookAnswer m → r .outcome ≡ Outcome.Accepted → BookSaid m r
+pub book-says : (m : Read OrderBook) {r : Reading} → r ≡ bookAnswer m → r .verdict ≡ Verdict.Accepted → BookSaid m r
 unfolding bookAnswer
 book-says (value b end) e f = record { book = b; end = end; said = refl; keeps = cc }
 book-says (refused n p) e f = let z : _≡_ {A = ℕ} 0 1 = cc in absurd (omega arith)
 
-pub book-refused : (m : Read OrderBook) {r : Reading} {number place : ℕ} → r ≡ bookAnswer m → r .outcome ≡ Outcome.Refused number place → m ≡ refused number place
+pub book-refused : (m : Read OrderBook) {r : Reading} {number place : ℕ} → r ≡ bookAnswer m → r .verdict ≡ Verdict.Refused number place → m ≡ refused number place
 unfolding bookAnswer
 book-refused (value b end) e f = let z : _≡_ {A = ℕ} 0 1 = cc in absurd (omega arith)
 book-refused (refused n p) e f = cc

@@ -13,26 +13,26 @@ use Rattle.literals.specs.Literal.{Literal, ofByte}
 use Rattle.literals.specs.Truth.{yesMask, noMask}
 use Rattle.literals.specs.declared.LiteralSet.{LiteralSet}
 use Rattle.book.specs.Limits.{maxRules, maxLiterals}
-use Rattle.book.specs.Format.{Record, says, fails, check, opened, byte, rising, ruleAt, ruleValues, RL}
+use Rattle.book.specs.Format.{RecordRead, says, fails, check, opened, byte, rising, ruleAt, ruleValues, RL}
 use Rattle.book.specs.Answer.{masks, ruleAnswer, padded}
 use Rattle.book.specs.declared.rules.RuleRead.{RuleRead}
 use Rattle.book.specs.declared.rules.RuleRead.the-variants as RuleRead
-use Rattle.book.proofs.CheckLaws.{after-says, check-says, opened-says}
+use Rattle.book.proofs.CheckLaws.{checked-first-says, check-says, opened-says}
 use Rattle.book.proofs.ManyLaws.{Walked, walked-none, walked-more}
 use Rattle.book.proofs.PaddedLaws.{filled}
 
 -- the answer of an RL record, taken back
-pub rule-fails : (m : Record (List Literal)) {r : RuleRead} {number : ℕ} → r ≡ ruleAnswer m → r ≡ RuleRead.Fails number → m ≡ fails number
+pub rule-fails : (m : RecordRead (List Literal)) {r : RuleRead} {number : ℕ} → r ≡ ruleAnswer m → r ≡ RuleRead.Fails number → m ≡ fails number
 unfolding ruleAnswer
 rule-fails (says ls len) e f = let z : _≡_ {A = ℕ} 0 1 = cc in absurd (omega arith)
 rule-fails (fails n) e f = cc
 
-pub record RuleSaid (m : Record (List Literal)) (two : LiteralSet) (len : ℕ) : Type 0 where
+pub record RuleSaid (m : RecordRead (List Literal)) (two : LiteralSet) (len : ℕ) : Type 0 where
   pub rule : List Literal
   pub said : m ≡ says rule len
   pub as-masks : two ≡ masks rule
 
-pub rule-says : (m : Record (List Literal)) {r : RuleRead} {two : LiteralSet} {len : ℕ} → r ≡ ruleAnswer m → r ≡ RuleRead.Says two len → RuleSaid m two len
+pub rule-says : (m : RecordRead (List Literal)) {r : RuleRead} {two : LiteralSet} {len : ℕ} → r ≡ ruleAnswer m → r ≡ RuleRead.Says two len → RuleSaid m two len
 unfolding ruleAnswer
 rule-says (says ls k) e f = record { rule = ls; said = cc; as-masks = cc }
 rule-says (fails n) e f = let z : _≡_ {A = ℕ} 0 1 = cc in absurd (omega arith)
@@ -41,7 +41,7 @@ rule-says (fails n) e f = let z : _≡_ {A = ℕ} 0 1 = cc in absurd (omega arit
 pub rule-size : (n : ℕ) (s : List ℕ) {ls : List Literal} {len : ℕ} → ruleAt n s ≡ says ls len → len ≤ length s
 unfolding ruleAt ruleValues
 rule-size n s {ls} {len} e =
-    let o = after-says (opened RL 3 s) (ruleValues n s) e in
+    let o = checked-first-says (opened RL 3 s) (ruleValues n s) e in
     go (leb 1 (byte s 2)) (leb (byte s 2) maxLiterals) (leb (3 + byte s 2) (length s)) (rising n 0 (map ofByte (take (byte s 2) (drop 3 s)))) refl (o .2)
   where
     lits : List Literal

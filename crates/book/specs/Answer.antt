@@ -7,13 +7,13 @@ use Rattle.literals.specs.Literal.{Literal}
 use Rattle.literals.specs.Truth.{yesMask, noMask}
 use Rattle.literals.specs.declared.LiteralSet.{LiteralSet}
 use Rattle.book.specs.Limits.{maxRules, maxChoices}
-use Rattle.book.specs.Format.{Record, says, fails, Read, value, refused, Header, Cost, OrderBook, rising}
+use Rattle.book.specs.Format.{RecordRead, says, fails, Read, value, refused, Header, Cost, OrderBook, rising}
 use Rattle.book.specs.declared.Book.{Book}
 use Rattle.book.specs.declared.Reading.{Reading}
-use Rattle.book.specs.declared.Outcome.{Outcome}
-use Rattle.book.specs.declared.Outcome.the-variants as Outcome
-use Rattle.book.specs.declared.Passed.{Passed}
-use Rattle.book.specs.declared.Passed.the-variants as Passed
+use Rattle.book.specs.declared.Verdict.{Verdict}
+use Rattle.book.specs.declared.Verdict.the-variants as Verdict
+use Rattle.book.specs.declared.PlaceAfter.{PlaceAfter}
+use Rattle.book.specs.declared.PlaceAfter.the-variants as PlaceAfter
 use Rattle.book.specs.declared.costs.CostRead.{CostRead}
 use Rattle.book.specs.declared.costs.CostRead.the-variants as CostRead
 use Rattle.book.specs.declared.header.HeaderRead.{HeaderRead}
@@ -22,7 +22,7 @@ use Rattle.book.specs.declared.rules.LiteralsRead.{LiteralsRead}
 use Rattle.book.specs.declared.rules.LiteralsRead.the-variants as LiteralsRead
 use Rattle.book.specs.declared.rules.RuleRead.{RuleRead}
 use Rattle.book.specs.declared.rules.RuleRead.the-variants as RuleRead
-use Rattle.book.specs.declared.rules.Rules.{Rules}
+use Rattle.book.specs.declared.rules.RulesRead.{RulesRead}
 use Rattle.book.specs.declared.facts.FactRead.{FactRead}
 use Rattle.book.specs.declared.facts.FactRead.the-variants as FactRead
 use Rattle.book.specs.declared.facts.FactsRead.{FactsRead}
@@ -30,21 +30,21 @@ use Rattle.book.specs.declared.facts.FactsRead.the-variants as FactsRead
 use Rattle.book.specs.declared.mark.Check.{Check}
 use Rattle.book.specs.declared.mark.Check.the-variants as Check
 
-unfoldable pub checkAnswer : Record (Unit {0}) → Check
+unfoldable pub checkAnswer : RecordRead (Unit {0}) → Check
 checkAnswer (says u len) = Check.Passes
 checkAnswer (fails number) = Check.Fails number
 
-unfoldable pub headerAnswer : Record Header → HeaderRead
+unfoldable pub headerAnswer : RecordRead Header → HeaderRead
 headerAnswer (says h len) = HeaderRead.Says (h .variables) (h .choices) (h .rules)
 headerAnswer (fails number) = HeaderRead.Fails number
 
-unfoldable pub costAnswer : Record Cost → CostRead
+unfoldable pub costAnswer : RecordRead Cost → CostRead
 costAnswer (says c len) = CostRead.Says (c .ofYes) (c .ofNo)
 costAnswer (fails number) = CostRead.Fails number
 
-unfoldable pub passedAnswer : {A : Type 0} → Read A → Passed
-passedAnswer (value a place) = Passed.To place
-passedAnswer (refused number place) = Passed.Refused number place
+unfoldable pub placeAnswer : {A : Type 0} → Read A → PlaceAfter
+placeAnswer (value a place) = PlaceAfter.At place
+placeAnswer (refused number place) = PlaceAfter.Refused number place
 
 -- A list of literals as its two masks.
 abbrev pub masks : List Literal → LiteralSet
@@ -54,7 +54,7 @@ masks ls = record { yes = yesMask ls; no = noMask ls }
 unfoldable pub literalsAnswer : ℕ → List Literal → LiteralsRead
 literalsAnswer n ls = cond (rising n 0 ls) (LiteralsRead.Says (masks ls)) LiteralsRead.Fails
 
-unfoldable pub ruleAnswer : Record (List Literal) → RuleRead
+unfoldable pub ruleAnswer : RecordRead (List Literal) → RuleRead
 ruleAnswer (says ls len) = RuleRead.Says (masks ls) len
 ruleAnswer (fails number) = RuleRead.Fails number
 
@@ -64,11 +64,11 @@ module _ {A : Type 0} where
   padded d n xs = xs ++ replicate (n - length xs) d
 
 -- The rules' masks in two arrays, zeros after the last; no rule where a record is refused.
-unfoldable pub rulesAnswer : Read (List (List Literal)) → Rules
-rulesAnswer (value rs place) = record { passed = Passed.To place; yes = padded 0 maxRules (map yesMask rs); no = padded 0 maxRules (map noMask rs) }
-rulesAnswer (refused number place) = record { passed = Passed.Refused number place; yes = padded 0 maxRules []; no = padded 0 maxRules [] }
+unfoldable pub rulesAnswer : Read (List (List Literal)) → RulesRead
+rulesAnswer (value rs place) = record { after = PlaceAfter.At place; yes = padded 0 maxRules (map yesMask rs); no = padded 0 maxRules (map noMask rs) }
+rulesAnswer (refused number place) = record { after = PlaceAfter.Refused number place; yes = padded 0 maxRules []; no = padded 0 maxRules [] }
 
-unfoldable pub factAnswer : Record Literal → FactRead
+unfoldable pub factAnswer : RecordRead Literal → FactRead
 factAnswer (says l len) = FactRead.Says l
 factAnswer (fails number) = FactRead.Fails number
 
@@ -85,9 +85,9 @@ abbrev pub emptyBook : Book
 emptyBook =
     record { variables = 0; choices = 0; rules = 0; yes = padded 0 maxRules []; no = padded 0 maxRules []; «facts_yes» = 0; «facts_no» = 0 }
 
--- An order book as it is kept: its rules and its facts as masks.
-abbrev pub kept : OrderBook → Book
-kept b =
+-- An order book as it is kept, its rules and facts as masks.
+abbrev pub maskedBook : OrderBook → Book
+maskedBook b =
     record {
       variables = b .header .variables;
       choices = b .header .choices;
@@ -100,14 +100,14 @@ kept b =
 
 -- The answer of the reader: document 01's number and place for a refusal, with no sets and no counts; the book where it is accepted.
 unfoldable pub bookAnswer : Read OrderBook → Reading
-bookAnswer (value b end) = record { outcome = Outcome.Accepted; book = kept b }
-bookAnswer (refused number place) = record { outcome = Outcome.Refused number place; book = emptyBook }
+bookAnswer (value b end) = record { verdict = Verdict.Accepted; book = maskedBook b }
+bookAnswer (refused number place) = record { verdict = Verdict.Refused number place; book = emptyBook }
 
 -- A choice's costs as a row: the yes first.
 abbrev pub row : Cost → List ℕ
 row c = c .ofYes ∷ c .ofNo ∷ []
 
--- The costs as twenty rows of two: row by variable, column by sign. Rows of 0 after the last choice.
+-- The costs as rows of two: row by variable, column by sign. Rows of 0 after the last choice.
 unfoldable pub table : List Cost → List (List ℕ)
 table cs = padded (0 ∷ 0 ∷ []) maxChoices (map row cs)
 

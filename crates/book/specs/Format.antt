@@ -31,9 +31,9 @@ pub record OrderBook : Type 0 where
 -- ---- answers of a reader
 
 -- One record, read from its mark on: what it says and how many bytes it has, or the number of the first check that fails.
-pub data Record (A : Type 0) : Type 0 where
-  says : A → ℕ → Record A
-  fails : ℕ → Record A
+pub data RecordRead (A : Type 0) : Type 0 where
+  says : A → ℕ → RecordRead A
+  fails : ℕ → RecordRead A
 
 -- Several records: what they say and the place after them, or a refusal with its number and place.
 pub data Read (A : Type 0) : Type 0 where
@@ -42,18 +42,18 @@ pub data Read (A : Type 0) : Type 0 where
 
 module _ {A : Type 0} where
   -- A check with its number: where it fails, the record fails with that number, and nothing after it is looked at.
-  abbrev pub check : Bool → ℕ → Record A → Record A
+  abbrev pub check : Bool → ℕ → RecordRead A → RecordRead A
   check true number rest = rest
   check false number rest = fails number
 
   -- What is checked first decides.
-  abbrev pub after : Record (Unit {0}) → Record A → Record A
-  after (says u len) rest = rest
-  after (fails number) rest = fails number
+  abbrev pub checkedFirst : RecordRead (Unit {0}) → RecordRead A → RecordRead A
+  checkedFirst (says u len) rest = rest
+  checkedFirst (fails number) rest = fails number
 
 module _ {A B : Type 0} where
   -- A record at a place, and what follows it. A failing record is refused at the place where it begins.
-  abbrev pub begin : ℕ → Record A → (A → ℕ → Read B) → Read B
+  abbrev pub begin : ℕ → RecordRead A → (A → ℕ → Read B) → Read B
   begin place (says a len) next = next a (place + len)
   begin place (fails number) next = refused number place
 
@@ -64,9 +64,9 @@ module _ {A B : Type 0} where
 
 module _ {A : Type 0} where
   -- One more item, read before the others.
-  abbrev pub onto : A → Read (List A) → Read (List A)
-  onto a (value rest place) = value (a ∷ rest) place
-  onto a (refused number place) = refused number place
+  abbrev pub withItem : A → Read (List A) → Read (List A)
+  withItem a (value rest place) = value (a ∷ rest) place
+  withItem a (refused number place) = refused number place
 
 -- ---- bytes
 
@@ -101,7 +101,7 @@ marked mark s = eqb (byte s 0) (byte mark 0) && eqb (byte s 1) (byte mark 1)
 -- ---- the records: mark, count byte, presence of all fields, then the field values from the left
 
 -- The beginning of a record: its mark, and then so many bytes in all.
-unfoldable pub opened : List ℕ → ℕ → List ℕ → Record (Unit {0})
+unfoldable pub opened : List ℕ → ℕ → List ℕ → RecordRead (Unit {0})
 opened mark size s =
     check (leb 2 (length s)) 1
     (check (marked mark s) 2
@@ -109,7 +109,7 @@ opened mark size s =
     (says tt size)))
 
 -- HD: V, U, R.
-unfoldable pub headerValues : List ℕ → Record Header
+unfoldable pub headerValues : List ℕ → RecordRead Header
 headerValues s =
     check (leb (byte s 2) maxVariables) 3
     (check (leb (byte s 3) maxChoices) 3
@@ -117,23 +117,23 @@ headerValues s =
     (check (leb (byte s 4) maxRules) 3
     (says (record { variables = byte s 2; choices = byte s 3; rules = byte s 4 }) 5))))
 
-unfoldable pub headerAt : List ℕ → Record Header
-headerAt s = after (opened HD 5 s) (headerValues s)
+unfoldable pub headerAt : List ℕ → RecordRead Header
+headerAt s = checkedFirst (opened HD 5 s) (headerValues s)
 
 -- Whether a number is a cost.
 unfoldable pub isCost : ℕ → Bool
 isCost n = leb 1 n && leb n maxCost
 
 -- CS for the choice that is due: the choice, the cost of its yes, the cost of its no.
-unfoldable pub costValues : ℕ → List ℕ → Record Cost
+unfoldable pub costValues : ℕ → List ℕ → RecordRead Cost
 costValues due s =
     check (eqb (byte s 2) due) 4
     (check (isCost (pair s 3)) 4
     (check (isCost (pair s 5)) 4
     (says (record { ofYes = pair s 3; ofNo = pair s 5 }) 7)))
 
-unfoldable pub costAt : ℕ → List ℕ → Record Cost
-costAt due s = after (opened CS 7 s) (costValues due s)
+unfoldable pub costAt : ℕ → List ℕ → RecordRead Cost
+costAt due s = checkedFirst (opened CS 7 s) (costValues due s)
 
 -- Whether the literals' variables are at most n and rise strictly from above `last`; so no literal is 0.
 unfoldable pub rising : ℕ → ℕ → List Literal → Bool
@@ -141,7 +141,7 @@ rising n last [] = true
 rising n last (l ∷ ls) = ltb last (variable l) && leb (variable l) n && rising n (variable l) ls
 
 -- RL in a book of n variables: a count, then that many literals.
-unfoldable pub ruleValues : ℕ → List ℕ → Record (List Literal)
+unfoldable pub ruleValues : ℕ → List ℕ → RecordRead (List Literal)
 ruleValues n s =
     check (leb 1 (byte s 2)) 5
     (check (leb (byte s 2) maxLiterals) 5
@@ -149,52 +149,52 @@ ruleValues n s =
     (check (rising n 0 (map ofByte (take (byte s 2) (drop 3 s)))) 6
     (says (map ofByte (take (byte s 2) (drop 3 s))) (3 + byte s 2)))))
 
-unfoldable pub ruleAt : ℕ → List ℕ → Record (List Literal)
-ruleAt n s = after (opened RL 3 s) (ruleValues n s)
+unfoldable pub ruleAt : ℕ → List ℕ → RecordRead (List Literal)
+ruleAt n s = checkedFirst (opened RL 3 s) (ruleValues n s)
 
 -- FA in a book of u choices, after a fact over the variable `last` (0 where there is none): one literal.
-unfoldable pub factValues : ℕ → ℕ → List ℕ → Record Literal
+unfoldable pub factValues : ℕ → ℕ → List ℕ → RecordRead Literal
 factValues u last s =
     check (rising u last (ofByte (byte s 2) ∷ [])) 6
     (says (ofByte (byte s 2)) 3)
 
-unfoldable pub factAt : ℕ → ℕ → List ℕ → Record Literal
-factAt u last s = after (opened FA 3 s) (factValues u last s)
+unfoldable pub factAt : ℕ → ℕ → List ℕ → RecordRead Literal
+factAt u last s = checkedFirst (opened FA 3 s) (factValues u last s)
 
 -- Whether a part begins with FA.
 unfoldable pub atFact : List ℕ → Bool
 atFact s = leb 2 (length s) && marked FA s
 
 -- EN: the mark alone.
-unfoldable pub endAt : List ℕ → Record (Unit {0})
+unfoldable pub endAt : List ℕ → RecordRead (Unit {0})
 endAt s = opened EN 2 s
 
 -- ---- the book: HD, then U of CS, R of RL, any number of FA, and EN with nothing after it
 
-module _ {A : Type 0} (recordAt : ℕ → List ℕ → Record A) (s : List ℕ) where
+module _ {A : Type 0} (recordAt : ℕ → List ℕ → RecordRead A) (s : List ℕ) where
   -- So many records of one kind, the first of them number i, from a place on.
   unfoldable pub many : ℕ → ℕ → ℕ → Read (List A)
   many zero i place = value [] place
-  many (suc left) i place = begin place (recordAt i (drop place s)) (λ a next. onto a (many left (suc i) next))
+  many (suc left) i place = begin place (recordAt i (drop place s)) (λ a next. withItem a (many left (suc i) next))
 
 -- The facts from a place on, and EN. Each FA takes three bytes, so as many turns as there are bytes are enough (`facts-enough`, proofs/FactLaws).
 unfoldable pub factsFrom : List ℕ → ℕ → ℕ → ℕ → ℕ → Read (List Literal)
 factsFrom s u zero last place = refused 1 place
 factsFrom s u (suc turns) last place =
     cond (atFact (drop place s))
-    (begin place (factAt u last (drop place s)) (λ l next. onto l (factsFrom s u turns (variable l) next)))
+    (begin place (factAt u last (drop place s)) (λ l next. withItem l (factsFrom s u turns (variable l) next)))
     (begin place (endAt (drop place s)) (λ e next. value [] next))
 
 -- A book ends with its last byte: a byte after EN is refused with 7, at that byte.
-abbrev pub ended : List ℕ → ℕ → OrderBook → Read OrderBook
-ended s place b = cond (ltb place (length s)) (refused 7 place) (value b place)
+abbrev pub bookEnds : List ℕ → ℕ → OrderBook → Read OrderBook
+bookEnds s place b = cond (ltb place (length s)) (refused 7 place) (value b place)
 
 -- The book from its rules on, after the header and the costs.
 unfoldable pub fromRules : List ℕ → Header → List Cost → ℕ → Read OrderBook
 fromRules s h costs place =
     andThen (many (λ i. ruleAt (h .variables)) s (h .rules) 1 place) (λ rules place.
     andThen (factsFrom s (h .choices) (suc (length s)) 0 place) (λ facts place.
-    ended s place (record { header = h; costs = costs; rules = rules; facts = facts })))
+    bookEnds s place (record { header = h; costs = costs; rules = rules; facts = facts })))
 
 -- What the bytes s mean.
 unfoldable pub readBook : List ℕ → Read OrderBook

@@ -1,6 +1,6 @@
 pub mod Limits
 pub mod Format
 pub mod Answer
-pub mod Kept
+pub mod MaskedRules
 pub mod Orders
 pub mod Readings

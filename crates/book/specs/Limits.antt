@@ -1,5 +1,5 @@
 -- The limits of a book. Here they are named once for the meaning, as `Book`'s associated constants name them once for the code.
-use Prim.Native.Nat.{ℕ}
+use Prim.Native.Nat.{ℕ, _+_, _*_}
 
 -- V, the variables, at most.
 abbrev pub maxVariables : ℕ
@@ -21,6 +21,14 @@ maxCost = 999
 abbrev pub maxLiterals : ℕ
 maxLiterals = 8
 
--- The bytes of a log, at most: 20 × 27 + 7.
+-- The bytes of one step's record, at most: 7, and a literal for each choice.
+abbrev pub maxStepBytes : ℕ
+maxStepBytes = maxChoices + 7
+
+-- The bytes of the record that ends a log.
+abbrev pub okSize : ℕ
+okSize = 7
+
+-- The bytes of a log, at most: a step for each choice, and the end.
 abbrev pub maxLog : ℕ
-maxLog = 547
+maxLog = maxChoices * maxStepBytes + okSize

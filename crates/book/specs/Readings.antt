@@ -7,14 +7,14 @@ use Rattle.book.specs.Format.{Read, refused, OrderBook, marked, pair, is
 use Rattle.book.specs.Orders.{order-a, order-j}
 
 -- An order's bytes, and what they mean.
-pub record Row : Type 0 where
+pub record OrderMeaning : Type 0 where
   pub bytes : List ℕ
   pub meaning : Read OrderBook
 
 -- a: 1 at 0. j: 6 at 12, the place of the rule whose literal's opposite does not fit a signed byte.
-unfoldable pub readings : List Row
+unfoldable pub readings : List OrderMeaning
 readings = record { bytes = order-a; meaning = refused 1 0 } ∷ record { bytes = order-j; meaning = refused 6 12 } ∷ []
 
-pub readings-agree : map (λ (r : Row). readBook (r .bytes)) readings ≡ map (λ (r : Row). r .meaning) readings
+pub readings-agree : map (λ (r : OrderMeaning). readBook (r .bytes)) readings ≡ map (λ (r : OrderMeaning). r .meaning) readings
 unfolding readings order-a order-j readBook fromRules factsFrom many endAt atFact factAt factValues ruleAt ruleValues costAt costValues headerAt headerValues rising opened isCost pair marked variable ofByte
 readings-agree = refl

@@ -1,15 +1,16 @@
-// CS: the costs of the choices, twenty rows of two.
+// CS: the costs of the choices, a row of two for each.
 ghost use mathlib.Core.Path.{_≡_};
 ghost use Prim.Native.Nat.{_+_, _<_, _≤_};
 ghost use lib.ListN.{length};
+ghost use Rattle.book.specs.Limits.{maxChoices};
 ghost use Rattle.book.specs.Format.{pair, isCost, costAt, costValues, many};
-ghost use Rattle.book.specs.Answer.{costAnswer, passedAnswer, tableAnswer};
+ghost use Rattle.book.specs.Answer.{costAnswer, placeAnswer, tableAnswer};
 use crate::Book;
-use crate::Passed;
+use crate::PlaceAfter;
 use crate::mark;
 use crate::mark::Check;
 
-pub enum CostRead {
+enum CostRead {
     Says { of_yes: u16, of_no: u16 },
     Fails(u8),
 }
@@ -19,7 +20,9 @@ fn pair_at(s: &[u8], i: usize) -> u16
     requires { ⌜ i + 1 < length (now s) ⌝ }
     ensures { λ r. ⌜ r ≡ pair (now (s .entry)) i ⌝ }
 {
-    256 * (s[i] as u16) + (s[i + 1] as u16)
+    let high = s[i] as u16;
+    let low = s[i + 1] as u16;
+    256 * high + low
 }
 
 // Whether a number is a cost.
@@ -30,17 +33,17 @@ fn is_cost(n: u16) -> bool
 }
 
 // The CS record at the beginning of a part, for the choice that is due.
-pub fn read_cost(s: &[u8], due: usize) -> CostRead
+fn read_cost(s: &[u8], due: usize) -> CostRead
     ensures { λ r. ⌜ r ≡ costAnswer (costAt due (now (s .entry))) ⌝ }
 {
     match mark::opened(s, mark::CS, 7) {
         Check::Fails(number) => CostRead::Fails(number),
-        Check::Passes => values(s, due),
+        Check::Passes => cost_values(s, due),
     }
 }
 
 // The values of a CS record whose fields are all there.
-fn values(s: &[u8], due: usize) -> CostRead
+fn cost_values(s: &[u8], due: usize) -> CostRead
     requires { ⌜ 7 ≤ length (now s) ⌝ }
     ensures { λ r. ⌜ r ≡ costAnswer (costValues due (now (s .entry))) ⌝ }
 {
@@ -59,15 +62,15 @@ fn values(s: &[u8], due: usize) -> CostRead
 }
 
 // The CS records of the choices, from a place on, are checked.
-pub fn check_costs(s: &[u8], choices: usize, from: usize) -> Passed
+pub fn check_costs(s: &[u8], choices: usize, from: usize) -> PlaceAfter
     requires { ⌜ from ≤ length (now s) ⌝ }
-    ensures { λ r. ⌜ r ≡ passedAnswer (many costAt (now (s .entry)) choices 1 from) ⌝ }
+    ensures { λ r. ⌜ r ≡ placeAnswer (many costAt (now (s .entry)) choices 1 from) ⌝ }
 {
     let mut place = from;
     let mut i = 0;
     while i < choices {
         match read_cost(&s[place..], i + 1) {
-            CostRead::Fails(number) => return Passed::Refused { number, place },
+            CostRead::Fails(number) => return PlaceAfter::Refused { number, place },
             CostRead::Says {
                 of_yes: _,
                 of_no: _,
@@ -77,12 +80,12 @@ pub fn check_costs(s: &[u8], choices: usize, from: usize) -> Passed
             }
         }
     }
-    Passed::To(place)
+    PlaceAfter::At(place)
 }
 
 // The costs of the choices as rows of two, row by variable, column by sign. All rows are 0 where a record is refused.
 pub fn cost_table(s: &[u8], choices: usize, from: usize) -> [[u16; 2]; Book::MAX_CHOICES]
-    requires { ⌜ choices ≤ 20 ⌝ }
+    requires { ⌜ choices ≤ maxChoices ⌝ }
     requires { ⌜ from ≤ length (now s) ⌝ }
     ensures { λ r. ⌜ r ≡ tableAnswer (λ cs. cs) (many costAt (now (s .entry)) choices 1 from) ⌝ }
 {

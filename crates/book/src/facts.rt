@@ -2,13 +2,14 @@
 ghost use mathlib.Core.Path.{_≡_};
 ghost use Prim.Native.Nat.{_+_, _<_, _≤_, suc};
 ghost use lib.ListN.{length};
+ghost use Rattle.sets.specs.Sets.{width};
 ghost use Rattle.book.specs.Format.{factAt, factValues, atFact, factsFrom};
 ghost use Rattle.book.specs.Answer.{factAnswer, factsAnswer};
 use crate::mark;
 use crate::mark::Check;
 use literals::LiteralSet;
 
-pub enum FactRead {
+enum FactRead {
     Says(i8),
     Fails(u8),
 }
@@ -19,17 +20,17 @@ pub enum FactsRead {
 }
 
 // The FA record at the beginning of a part, in a book of `u` choices, after a fact over the variable `last`.
-pub fn read_fact(s: &[u8], u: usize, last: usize) -> FactRead
+fn read_fact(s: &[u8], u: usize, last: usize) -> FactRead
     ensures { λ r. ⌜ r ≡ factAnswer (factAt u last (now (s .entry))) ⌝ }
 {
     match mark::opened(s, mark::FA, 3) {
         Check::Fails(number) => FactRead::Fails(number),
-        Check::Passes => fact_value(s, u, last),
+        Check::Passes => fact_values(s, u, last),
     }
 }
 
 // The literal of an FA record that is all there.
-fn fact_value(s: &[u8], u: usize, last: usize) -> FactRead
+fn fact_values(s: &[u8], u: usize, last: usize) -> FactRead
     requires { ⌜ 3 ≤ length (now s) ⌝ }
     ensures { λ r. ⌜ r ≡ factAnswer (factValues u last (now (s .entry))) ⌝ }
 {
@@ -45,7 +46,7 @@ fn fact_value(s: &[u8], u: usize, last: usize) -> FactRead
 }
 
 // Whether a part begins with FA.
-pub fn at_fact(s: &[u8]) -> bool
+fn at_fact(s: &[u8]) -> bool
     ensures { λ r. ⌜ r ≡ atFact (now (s .entry)) ⌝ }
 {
     if 2 <= s.len() {
@@ -57,7 +58,7 @@ pub fn at_fact(s: &[u8]) -> bool
 
 // The FA records from a place on, and EN.
 pub fn read_facts(s: &[u8], u: usize, from: usize) -> FactsRead
-    requires { ⌜ u ≤ 64 ⌝ }
+    requires { ⌜ u ≤ width ⌝ }
     requires { ⌜ from ≤ length (now s) ⌝ }
     ensures { λ r. ⌜ r ≡ factsAnswer (factsFrom (now (s .entry)) u (suc (length (now (s .entry)))) 0 from) ⌝ }
 {

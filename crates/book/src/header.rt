@@ -23,12 +23,12 @@ pub fn read_header(s: &[u8]) -> HeaderRead
 {
     match mark::opened(s, mark::HD, 5) {
         Check::Fails(number) => HeaderRead::Fails(number),
-        Check::Passes => counts(s),
+        Check::Passes => header_values(s),
     }
 }
 
 // The counts of a header whose fields are all there.
-fn counts(s: &[u8]) -> HeaderRead
+fn header_values(s: &[u8]) -> HeaderRead
     requires { ⌜ 5 ≤ length (now s) ⌝ }
     ensures { λ r. ⌜ r ≡ headerAnswer (headerValues (now (s .entry))) ⌝ }
 {

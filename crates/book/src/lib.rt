@@ -3,14 +3,16 @@ ghost use mathlib.Core.Path.{_≡_};
 ghost use Prim.Native.Nat.{_≤_};
 ghost use lib.ListN.{length};
 ghost use mathlib.Core.List.{[]};
+ghost use Rattle.sets.specs.Sets.{width};
+ghost use Rattle.book.specs.Limits.{maxRules};
 ghost use Rattle.book.specs.Format.{readBook, fromRules};
 ghost use Rattle.book.specs.Answer.{emptyBook, bookAnswer, tableAnswer, headerOf};
 
-pub mod costs;
-pub mod facts;
-pub mod header;
-pub mod mark;
-pub mod rules;
+mod costs;
+mod facts;
+mod header;
+mod mark;
+mod rules;
 
 use facts::FactsRead;
 use header::HeaderRead;
@@ -39,10 +41,17 @@ impl Book {
 
     pub const MAX_LITERALS: usize = 8;
 
-    pub const MAX_LOG: usize = 547;
+    // The bytes of the longest record of a step: 7, and a literal for each choice.
+    const MAX_STEP_BYTES: usize = Book::MAX_CHOICES + 7;
+
+    // The bytes of the record that ends a log.
+    const OK_SIZE: usize = 7;
+
+    // A step for each choice, and the end.
+    pub const MAX_LOG: usize = Book::MAX_CHOICES * Book::MAX_STEP_BYTES + Book::OK_SIZE;
 
     // The book that says nothing, which stands beside a refusal.
-    pub fn empty() -> Book
+    fn empty() -> Book
         ensures { λ r. ⌜ r ≡ emptyBook ⌝ }
     {
         Book {
@@ -58,29 +67,29 @@ impl Book {
 }
 
 // Several records in a row: the place after them, or the first refusal.
-pub enum Passed {
-    To(usize),
+enum PlaceAfter {
+    At(usize),
     Refused { number: u8, place: usize },
 }
 
 // Whether bytes are a proper order book; if not, the refusal's number and place.
-pub enum Outcome {
+pub enum Verdict {
     Accepted,
     Refused { number: u8, place: usize },
 }
 
 // An accepted book, or a refusal beside the empty book: an enum cannot hold the book's arrays.
 pub struct Reading {
-    pub outcome: Outcome,
+    pub verdict: Verdict,
     pub book: Book,
 }
 
 // The answer to bytes that are refused.
 fn refuse(number: u8, place: usize) -> Reading
-    ensures { λ r. ⌜ r ≡ record { outcome = Outcome.Refused number place; book = emptyBook } ⌝ }
+    ensures { λ r. ⌜ r ≡ record { verdict = Verdict.Refused number place; book = emptyBook } ⌝ }
 {
     Reading {
-        outcome: Outcome::Refused { number, place },
+        verdict: Verdict::Refused { number, place },
         book: Book::empty(),
     }
 }
@@ -97,34 +106,34 @@ pub fn read(s: &[u8]) -> Reading
             choices,
             rules,
         } => match costs::check_costs(s, choices, 5) {
-            Passed::Refused { number, place } => refuse(number, place),
-            Passed::To(place) => read_from_rules(s, variables, choices, rules, place),
+            PlaceAfter::Refused { number, place } => refuse(number, place),
+            PlaceAfter::At(place) => read_from_rules(s, variables, choices, rules, place),
         },
     }
 }
 
 // The book from its rules on, after a header and costs that are good.
 fn read_from_rules(s: &[u8], variables: usize, choices: usize, rules: usize, from: usize) -> Reading
-    requires { ⌜ variables ≤ 64 ⌝ }
-    requires { ⌜ choices ≤ 64 ⌝ }
-    requires { ⌜ rules ≤ 128 ⌝ }
+    requires { ⌜ variables ≤ width ⌝ }
+    requires { ⌜ choices ≤ width ⌝ }
+    requires { ⌜ rules ≤ maxRules ⌝ }
     requires { ⌜ from ≤ length (now s) ⌝ }
     ensures { λ r. ⌜ r ≡ bookAnswer (fromRules (now (s .entry)) (headerOf variables choices rules) [] from) ⌝ }
 {
-    let read = rules::read_rules(s, variables, rules, from);
-    let passed = read.passed;
-    match passed {
-        Passed::Refused { number, place } => refuse(number, place),
-        Passed::To(place) => match facts::read_facts(s, choices, place) {
+    let rules_read = rules::read_rules(s, variables, rules, from);
+    let after = rules_read.after;
+    match after {
+        PlaceAfter::Refused { number, place } => refuse(number, place),
+        PlaceAfter::At(place) => match facts::read_facts(s, choices, place) {
             FactsRead::Refused { number, place } => refuse(number, place),
             FactsRead::Says { set, next } => {
                 if next < s.len() {
                     return refuse(7, next);
                 }
-                let yes = read.yes;
-                let no = read.no;
+                let yes = rules_read.yes;
+                let no = rules_read.no;
                 Reading {
-                    outcome: Outcome::Accepted,
+                    verdict: Verdict::Accepted,
                     book: Book {
                         variables,
                         choices,
@@ -140,19 +149,20 @@ fn read_from_rules(s: &[u8], variables: usize, choices: usize, rules: usize, fro
     }
 }
 
-// The costs of a book, twenty rows of two: beside the book's struct, which cannot hold an array of arrays.
+// The costs of a book, a row of two for each choice and zeros after the last: beside the book's struct, which cannot
+// hold an array of arrays.
 // Ruled out: a table with yes and no swapped; costs other than 0 beside a refusal.
 pub fn read_costs(s: &[u8]) -> [[u16; 2]; Book::MAX_CHOICES]
     ensures { λ r. ⌜ r ≡ tableAnswer (λ b. b .costs) (readBook (now (s .entry))) ⌝ }
 {
     let reading = read(s);
-    let outcome = reading.outcome;
-    match outcome {
-        Outcome::Refused {
+    let verdict = reading.verdict;
+    match verdict {
+        Verdict::Refused {
             number: _,
             place: _,
         } => [[0u16; 2]; Book::MAX_CHOICES],
-        Outcome::Accepted => {
+        Verdict::Accepted => {
             let choices = reading.book.choices;
             costs::cost_table(s, choices, 5)
         }

@@ -3,35 +3,37 @@ ghost use mathlib.Core.Path.{_≡_};
 ghost use mathlib.Core.List.{map};
 ghost use Prim.Native.Nat.{_+_, _<_, _≤_};
 ghost use lib.ListN.{length};
+ghost use Rattle.sets.specs.Sets.{width};
 ghost use Rattle.literals.specs.Literal.{ofByte};
+ghost use Rattle.book.specs.Limits.{maxRules};
 ghost use Rattle.book.specs.Format.{ruleAt, ruleValues, many};
 ghost use Rattle.book.specs.Answer.{literalsAnswer, ruleAnswer, rulesAnswer};
 use crate::Book;
-use crate::Passed;
+use crate::PlaceAfter;
 use crate::mark;
 use crate::mark::Check;
 use literals::LiteralSet;
 
-pub enum LiteralsRead {
+enum LiteralsRead {
     Says(LiteralSet),
     Fails,
 }
 
-pub enum RuleRead {
+enum RuleRead {
     Says { set: LiteralSet, len: usize },
     Fails(u8),
 }
 
 // The rules as two parallel arrays of masks, with the place after them or the first refusal.
-pub struct Rules {
-    pub passed: Passed,
+pub struct RulesRead {
+    pub after: PlaceAfter,
     pub yes: [u64; Book::MAX_RULES],
     pub no: [u64; Book::MAX_RULES],
 }
 
 // The literals that the bytes of a part are, over variables up to `n` that rise strictly.
-pub fn read_literals(s: &[u8], n: usize) -> LiteralsRead
-    requires { ⌜ n ≤ 64 ⌝ }
+fn read_literals(s: &[u8], n: usize) -> LiteralsRead
+    requires { ⌜ n ≤ width ⌝ }
     ensures { λ r. ⌜ r ≡ literalsAnswer n (map ofByte (now (s .entry))) ⌝ }
 {
     let mut set = LiteralSet { yes: 0, no: 0 };
@@ -54,19 +56,19 @@ pub fn read_literals(s: &[u8], n: usize) -> LiteralsRead
 }
 
 // The RL record at the beginning of a part, in a book of `n` variables.
-pub fn read_rule(s: &[u8], n: usize) -> RuleRead
-    requires { ⌜ n ≤ 64 ⌝ }
+fn read_rule(s: &[u8], n: usize) -> RuleRead
+    requires { ⌜ n ≤ width ⌝ }
     ensures { λ r. ⌜ r ≡ ruleAnswer (ruleAt n (now (s .entry))) ⌝ }
 {
     match mark::opened(s, mark::RL, 3) {
         Check::Fails(number) => RuleRead::Fails(number),
-        Check::Passes => counted(s, n),
+        Check::Passes => rule_values(s, n),
     }
 }
 
 // The RL record whose count is there.
-fn counted(s: &[u8], n: usize) -> RuleRead
-    requires { ⌜ n ≤ 64 ⌝ }
+fn rule_values(s: &[u8], n: usize) -> RuleRead
+    requires { ⌜ n ≤ width ⌝ }
     requires { ⌜ 3 ≤ length (now s) ⌝ }
     ensures { λ r. ⌜ r ≡ ruleAnswer (ruleValues n (now (s .entry))) ⌝ }
 {
@@ -88,9 +90,9 @@ fn counted(s: &[u8], n: usize) -> RuleRead
 }
 
 // The RL records, from a place on.
-pub fn read_rules(s: &[u8], n: usize, rules: usize, from: usize) -> Rules
-    requires { ⌜ n ≤ 64 ⌝ }
-    requires { ⌜ rules ≤ 128 ⌝ }
+pub fn read_rules(s: &[u8], n: usize, rules: usize, from: usize) -> RulesRead
+    requires { ⌜ n ≤ width ⌝ }
+    requires { ⌜ rules ≤ maxRules ⌝ }
     requires { ⌜ from ≤ length (now s) ⌝ }
     ensures { λ r. ⌜ r ≡ rulesAnswer (many (λ i. ruleAt n) (now (s .entry)) rules 1 from) ⌝ }
 {
@@ -101,8 +103,8 @@ pub fn read_rules(s: &[u8], n: usize, rules: usize, from: usize) -> Rules
     while i < rules {
         match read_rule(&s[place..], n) {
             RuleRead::Fails(number) => {
-                return Rules {
-                    passed: Passed::Refused { number, place },
+                return RulesRead {
+                    after: PlaceAfter::Refused { number, place },
                     yes: [0u64; Book::MAX_RULES],
                     no: [0u64; Book::MAX_RULES],
                 };
@@ -115,8 +117,8 @@ pub fn read_rules(s: &[u8], n: usize, rules: usize, from: usize) -> Rules
             }
         }
     }
-    Rules {
-        passed: Passed::To(place),
+    RulesRead {
+        after: PlaceAfter::At(place),
         yes,
         no,
     }

@@ -9,8 +9,8 @@ use lib.ListN.{length, getD, length-append, List·getD-append}
 use lib.Seq.{getD-at}
 use Rattle.literals.specs.declared.LiteralSet.{LiteralSet}
 use Rattle.sat.specs.Contracts.{Posed, Masks, Searched}
-use Rattle.sat.specs.declared.Outcome.{Outcome}
-use Rattle.sat.specs.declared.Outcome.the-variants.{Model as Found, Nothing}
+use Rattle.sat.specs.declared.SearchResult.{SearchResult}
+use Rattle.sat.specs.declared.SearchResult.the-variants.{Found, Nothing}
 use Rattle.consequence.specs.Contracts.{Denied}
 
 masks-snoc : (n : ℕ) (ms : List ℕ) (m : ℕ) → Masks n ms → m < 2 ^ n → Masks n (ms ++ (m ∷ []))
@@ -33,6 +33,6 @@ posed-more {n} {ys} {ns} y m p hy hm = record {
   apart = p .apart;
 }
 
-pub denied : (n : ℕ) (ys ns : List ℕ) (on off prefer : ℕ) (kept : LiteralSet) (r : Outcome) → Searched n (ys ++ (kept .no ∷ [])) (ns ++ (kept .yes ∷ [])) on off prefer r → Denied n ys ns on off kept r
+pub denied : (n : ℕ) (ys ns : List ℕ) (on off prefer : ℕ) (kept : LiteralSet) (r : SearchResult) → Searched n (ys ++ (kept .no ∷ [])) (ns ++ (kept .yes ∷ [])) on off prefer r → Denied n ys ns on off kept r
 denied n ys ns on off prefer kept (Found m) s = record { said = s .found .model }
 denied n ys ns on off prefer kept Nothing s = record { said = s .found }

@@ -18,8 +18,8 @@ use Rattle.literals.specs.Laws.{obeys-yes, obeys-no, obeys-some, TrueLiteral}
 use Rattle.literals.specs.declared.LiteralSet.{LiteralSet}
 use Rattle.sat.specs.Meaning.{obeysAll, Model, NoModel}
 use Rattle.sat.specs.Contracts.{Posed}
-use Rattle.sat.specs.declared.Outcome.{Outcome}
-use Rattle.sat.specs.declared.Outcome.the-variants.{Model as Found, Nothing}
+use Rattle.sat.specs.declared.SearchResult.{SearchResult}
+use Rattle.sat.specs.declared.SearchResult.the-variants.{Found, Nothing}
 use Rattle.consequence.specs.Laws.Masks.{to-theory, of-theory}
 use Rattle.consequence.specs.Laws.Forcing.{both-true, Exactly, exactly-yes, exactly-no}
 use Rattle.consequence.specs.Contracts.{maskTheory, Choosing, Denied, Narrowing, AllModels, Narrowed, commonYes, commonNo}
@@ -119,7 +119,7 @@ module _ {n : ℕ} {ys ns : List ℕ} {ch on off first : ℕ} (c : Choosing n ys
           let d : (inter m (kept .yes) ≡ kept .yes → ⊥) = λ s. omega (arith, bit-inter m (kept .yes) v, ap (λ x. bit x v) s) in
           omega (arith, ones-proper _ _ yes-within d, ones-within _ _ no-within)
 
-  module _ {kept : LiteralSet} {r : Outcome} {m : ℕ} (d : Denied n ys ns on off kept r) (found : r ≡ Found m) where
+  module _ {kept : LiteralSet} {r : SearchResult} {m : ℕ} (d : Denied n ys ns on off kept r) (found : r ≡ Found m) where
     denies : Model n ys ns on off m × (obeysMasks m (kept .no) (kept .yes) ≡ true)
     denies = fewer-rules (c .posed) (kept .no) (kept .yes) m ((rw found at d) .said)
 
@@ -137,7 +137,7 @@ module _ {n : ℕ} {ys ns : List ℕ} {ch on off first : ℕ} (c : Choosing n ys
     }
 
   -- where no model denies a kept literal, what is kept is exactly what is forced
-  pub kept-all : {kept : LiteralSet} {r : Outcome} → Narrowing n ys ns ch on off kept → Denied n ys ns on off kept r → r ≡ Nothing → Narrowed n ys ns ch on off kept
+  pub kept-all : {kept : LiteralSet} {r : SearchResult} → Narrowing n ys ns ch on off kept → Denied n ys ns on off kept r → r ≡ Nothing → Narrowed n ys ns ch on off kept
   kept-all {kept} {r} w d e = record { yes-forced = exactly-yes _ on off (kept .yes) yes-exact; no-forced = exactly-no _ on off (kept .no) no-exact }
     where
       none : NoModel n (ys ++ (kept .no ∷ [])) (ns ++ (kept .yes ∷ [])) on off

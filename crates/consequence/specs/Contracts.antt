@@ -9,8 +9,8 @@ use Rattle.literals.specs.declared.LiteralSet.{LiteralSet}
 use Rattle.sat.specs.Meaning.{obeysAll, Model, NoModel}
 use Rattle.problem.specs.Limits.{mostRules}
 use Rattle.sat.specs.Contracts.{Posed}
-use Rattle.sat.specs.declared.Outcome.{Outcome}
-use Rattle.sat.specs.declared.Outcome.the-variants.{Model as Found, Nothing}
+use Rattle.sat.specs.declared.SearchResult.{SearchResult}
+use Rattle.sat.specs.declared.SearchResult.the-variants.{Found, Nothing}
 use Rattle.consequence.specs.Meaning.{Theory, contradicts, yesForced, noForced}
 use Rattle.consequence.specs.declared.Consequence.{Consequence}
 use Rattle.consequence.specs.declared.Consequence.the-variants.{NoModel as Contradiction, Forced}
@@ -53,11 +53,11 @@ pub record Narrowing (n : ℕ) (ys ns : List ℕ) (ch on off : ℕ) (kept : Lite
 
 -- ---- one model that denies a kept literal, or none
 
-abbrev pub Denies : ℕ → List ℕ → List ℕ → ℕ → ℕ → LiteralSet → Outcome → Type 0
+abbrev pub Denies : ℕ → List ℕ → List ℕ → ℕ → ℕ → LiteralSet → SearchResult → Type 0
 Denies n ys ns on off kept (Found m) = Model n (ys ++ (kept .no ∷ [])) (ns ++ (kept .yes ∷ [])) on off m
 Denies n ys ns on off kept Nothing = NoModel n (ys ++ (kept .no ∷ [])) (ns ++ (kept .yes ∷ [])) on off
 
-pub record Denied (n : ℕ) (ys ns : List ℕ) (on off : ℕ) (kept : LiteralSet) (r : Outcome) : Type 0 where
+pub record Denied (n : ℕ) (ys ns : List ℕ) (on off : ℕ) (kept : LiteralSet) (r : SearchResult) : Type 0 where
   pub said : Denies n ys ns on off kept r
 
 -- ---- what is forced

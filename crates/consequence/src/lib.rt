@@ -9,8 +9,8 @@ ghost use Rattle.sat.specs.Contracts.{Posed, Searched};
 ghost use Rattle.consequence.specs.Contracts.{Choosing, Denied, Narrowed, Concluded};
 use literals::LiteralSet;
 use problem::MaskedProblem;
-use sat::Outcome;
 use sat::Partial;
+use sat::SearchResult;
 
 pub enum Consequence {
     NoModel,
@@ -34,7 +34,7 @@ fn with_one_more(masks: &[u64], last: u64) -> [u64; MaskedProblem::RULES_AND_ONE
 
 // A model that denies some literal of a set: one more rule asks for it. The values that deny the set are preferred,
 // so that few models are wanted.
-fn deny(n: u32, yes: &[u64], no: &[u64], p: Partial, kept: LiteralSet) -> Outcome
+fn deny(n: u32, yes: &[u64], no: &[u64], p: Partial, kept: LiteralSet) -> SearchResult
     requires { ⌜ Posed n (now yes) (now no) (p .on) (p .off) ⌝ }
     requires { ⌜ length (now yes) ≤ mostRules ⌝ }
     requires { ⌜ kept .yes < 2 ^ n ⌝ }
@@ -58,8 +58,8 @@ fn narrow(n: u32, yes: &[u64], no: &[u64], choices: u64, p: Partial, first: u64)
     };
     loop {
         match deny(n, yes, no, p, kept) {
-            Outcome::Nothing => return kept,
-            Outcome::Model(m) => {
+            SearchResult::Nothing => return kept,
+            SearchResult::Found(m) => {
                 kept = LiteralSet {
                     yes: sets::intersection(m, kept.yes),
                     no: sets::difference(kept.no, m),
@@ -77,7 +77,7 @@ pub fn propagate(n: u32, yes: &[u64], no: &[u64], choices: u64, p: Partial) -> C
     ensures { λ r. ⌜ Concluded n (now (yes .entry)) (now (no .entry)) choices (p .on) (p .off) r ⌝ }
 {
     match sat::search(n, yes, no, p, 0) {
-        Outcome::Nothing => Consequence::NoModel,
-        Outcome::Model(m) => Consequence::Forced(narrow(n, yes, no, choices, p, m)),
+        SearchResult::Nothing => Consequence::NoModel,
+        SearchResult::Found(m) => Consequence::Forced(narrow(n, yes, no, choices, p, m)),
     }
 }

@@ -7,7 +7,7 @@ use Prim.Native.Nat.{ℕ, _^_, _<_}
 use native.Mathlib.Omega.{arith}
 use Rattle.literals.specs.declared.LiteralSet.{LiteralSet}
 use Rattle.book.specs.Format.{Read, value, refused, OrderBook, readBook}
-use Rattle.book.specs.Answer.{kept}
+use Rattle.book.specs.Answer.{maskedBook}
 use Rattle.book.proofs.WellFormed.{WellFormed, well-formed}
 use Rattle.sat.specs.Laws.Fillings.{witness-some}
 use Rattle.problem.specs.Problem.{Problem, problemOf, given}
@@ -52,7 +52,7 @@ module _ {b : OrderBook} (w : WellFormed b) (end : ℕ) where
   -- ---- one model
 
   -- a model of the code's arguments is a model of the book
-  found-model : (f : ℕ) → ModelOf (theoryIn (maskedFrom (kept b))) (maskedFrom (kept b) .facts .yes) (maskedFrom (kept b) .facts .no) f → models (problemOf b) f ≡ true
+  found-model : (f : ℕ) → ModelOf (theoryIn (maskedFrom (maskedBook b))) (maskedFrom (maskedBook b) .facts .yes) (maskedFrom (maskedBook b) .facts .no) f → models (problemOf b) f ≡ true
   unfolding problemOf
   found-model f m =
       model-models (problemOf b) (proper-book w .facts-proper) f (subst (λ (t : Theory). ModelOf t (given (problemOf b) .yes) (given (problemOf b) .no) f) (theory-same w) m)
@@ -61,7 +61,7 @@ module _ {b : OrderBook} (w : WellFormed b) (end : ℕ) where
   unfolding hasModel
   found-has f h e = witness-some _ (models (problemOf b)) f h e
 
-  pub model-says : (r : ModelAnswer) → FoundModel (maskedFrom (kept b)) r → ModelSays (value b end) r
+  pub model-says : (r : ModelAnswer) → FoundModel (maskedFrom (maskedBook b)) r → ModelSays (value b end) r
   unfolding problemOf
   model-says (ModelAnswer.Model m) f =
       let e = found-model m (to-theory _ (f .said)) in (
@@ -74,7 +74,7 @@ module _ {b : OrderBook} (w : WellFormed b) (end : ℕ) where
 
   -- ---- the consequence
 
-  pub consequence-says : (r : ConsequenceAnswer) → FoundForced (maskedFrom (kept b)) r → r ≡ consequenceAnswer (value b end)
+  pub consequence-says : (r : ConsequenceAnswer) → FoundForced (maskedFrom (maskedBook b)) r → r ≡ consequenceAnswer (value b end)
   unfolding consequenceAnswer withModel
   consequence-says (ConsequenceAnswer.Forced two) f =
       rw (not-false-is (hasModel (problemOf b)) (sym (f .said .0) ∙ contradicts-has w)) (ap ConsequenceAnswer.Forced (f .said .1 ∙ forced-same w))

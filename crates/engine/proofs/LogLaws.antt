@@ -12,7 +12,7 @@ use borrow.Author.Tests.{lt-ltb, le-ltb, ltb-true}
 use Rattle.literals.specs.declared.LiteralSet.{LiteralSet}
 use Rattle.book.specs.Limits.{maxLog}
 use Rattle.book.specs.Format.{Read, value, refused, OrderBook, readBook}
-use Rattle.book.specs.Answer.{kept, table}
+use Rattle.book.specs.Answer.{maskedBook, table}
 use Rattle.book.proofs.WellFormed.{WellFormed, well-formed}
 use Rattle.problem.specs.Problem.{Problem, problemOf, given}
 use Rattle.problem.specs.Masked.{maskedFrom}
@@ -85,7 +85,7 @@ module _ {b : OrderBook} (w : WellFormed b) where
   outcomeBy : Theory → LiteralSet → LogOutcome
   outcomeBy t c = cond (not (hasModel (problemOf b))) (refusedWith 9 0) (ofRun (runOf (asking t (problemOf b .costs) c (given (problemOf b)))))
 
-  pub log-says : (end room : ℕ) → maxLog ≤ room → logIn (maskedFrom (kept b)) (table (b .costs)) ≡ logOutcome room (value b end)
+  pub log-says : (end room : ℕ) → maxLog ≤ room → logIn (maskedFrom (maskedBook b)) (table (b .costs)) ≡ logOutcome room (value b end)
   unfolding logIn logOutcome withModel runFor outcomeBy problemOf
   log-says end room l = rw (contradicts-has w, le-ltb _ _ l) (ap₂ outcomeBy (theory-same w) (forced-same w) ∙ cond-swap (hasModel (problemOf b)) _ _)
 

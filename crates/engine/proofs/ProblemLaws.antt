@@ -9,7 +9,7 @@ use lib.ListN.{length}
 use Rattle.literals.specs.Truth.{yesMask, noMask}
 use Rattle.literals.specs.declared.LiteralSet.{LiteralSet}
 use Rattle.book.specs.Format.{OrderBook}
-use Rattle.book.specs.Answer.{kept, table}
+use Rattle.book.specs.Answer.{maskedBook, table}
 use Rattle.book.proofs.WellFormed.{WellFormed}
 use Rattle.problem.specs.Limits.{mostRules}
 use Rattle.problem.specs.Problem.{Problem, problemOf, given}
@@ -28,29 +28,29 @@ cond-swap false x y = refl
 
 module _ {b : OrderBook} (w : WellFormed b) where
   -- the rules that the search is handed are those of the book
-  yes-rules : yesIn (maskedFrom (kept b)) ≡ map yesMask (b .rules)
+  yes-rules : yesIn (maskedFrom (maskedBook b)) ≡ map yesMask (b .rules)
   yes-rules = masks-kept w yesMask
 
-  no-rules : noIn (maskedFrom (kept b)) ≡ map noMask (b .rules)
+  no-rules : noIn (maskedFrom (maskedBook b)) ≡ map noMask (b .rules)
   no-rules = masks-kept w noMask
 
-  pub theory-same : theoryIn (maskedFrom (kept b)) ≡ theoryOf (problemOf b)
+  pub theory-same : theoryIn (maskedFrom (maskedBook b)) ≡ theoryOf (problemOf b)
   unfolding problemOf
   theory-same = ap₂ (λ (y : List ℕ) (n : List ℕ). maskTheory (b .header .variables) y n (problemOf b .choices)) yes-rules no-rules ∙ same-theory (problemOf b)
 
-  pub facts-same : maskedFrom (kept b) .facts ≡ given (problemOf b)
+  pub facts-same : maskedFrom (maskedBook b) .facts ≡ given (problemOf b)
   unfolding problemOf
   facts-same = refl
 
   -- what the given facts force is the consequence
-  pub forced-same : forcedIn (maskedFrom (kept b)) ≡ consequenceOf (problemOf b)
+  pub forced-same : forcedIn (maskedFrom (maskedBook b)) ≡ consequenceOf (problemOf b)
   unfolding problemOf
   forced-same =
       ap (λ (t : Theory). record { yes = yesForced t (yesMask (b .facts)) (noMask (b .facts)); no = noForced t (yesMask (b .facts)) (noMask (b .facts)) }) theory-same
       ∙ sym (ap₂ (λ (y : ℕ) (n : ℕ). record { yes = y; no = n }) (yes-consequence (problemOf b) (proper-book w .facts-proper)) (no-consequence (problemOf b) (proper-book w .facts-proper)))
 
   -- they contradict the rules exactly where the book has no model
-  pub contradicts-has : contradicts (theoryIn (maskedFrom (kept b))) (maskedFrom (kept b) .facts .yes) (maskedFrom (kept b) .facts .no) ≡ not (hasModel (problemOf b))
+  pub contradicts-has : contradicts (theoryIn (maskedFrom (maskedBook b))) (maskedFrom (maskedBook b) .facts .yes) (maskedFrom (maskedBook b) .facts .no) ≡ not (hasModel (problemOf b))
   unfolding problemOf
   contradicts-has =
       ap (λ (t : Theory). contradicts t (yesMask (b .facts)) (noMask (b .facts))) theory-same
@@ -62,7 +62,7 @@ module _ {b : OrderBook} (w : WellFormed b) where
 
   -- ---- what the searches ask
 
-  pub searchable : Searchable (maskedFrom (kept b))
+  pub searchable : Searchable (maskedFrom (maskedBook b))
   unfolding problemOf
   searchable = record {
     few-rules = omega (arith, w .few-rules);
@@ -72,10 +72,10 @@ module _ {b : OrderBook} (w : WellFormed b) where
     posed = rw (yes-rules, no-rules) (proper-posed (proper-book w));
   }
 
-  pub steppable : Steppable (maskedFrom (kept b)) (table (b .costs))
+  pub steppable : Steppable (maskedFrom (maskedBook b)) (table (b .costs))
   unfolding problemOf
   steppable = record { searchable = searchable; few = w .few-variables; rows = proper-book w .few-choices; cheap = proper-book w .cheap }
 
-  pub loggable : Loggable (maskedFrom (kept b)) (table (b .costs))
+  pub loggable : Loggable (maskedFrom (maskedBook b)) (table (b .costs))
   unfolding problemOf
   loggable = record { steppable = steppable; yes-facts = proper-book w .yes-facts; no-facts = proper-book w .no-facts }

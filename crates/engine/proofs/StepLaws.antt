@@ -13,7 +13,7 @@ use Rattle.sets.specs.Sets.{subset, Within}
 use Rattle.sets.specs.Laws.Subset.{subset-within}
 use Rattle.literals.specs.declared.LiteralSet.{LiteralSet}
 use Rattle.book.specs.Format.{value, OrderBook, readBook}
-use Rattle.book.specs.Answer.{kept, table}
+use Rattle.book.specs.Answer.{maskedBook, table}
 use Rattle.book.proofs.WellFormed.{WellFormed}
 use Rattle.problem.specs.Problem.{Problem, problemOf, given}
 use Rattle.problem.specs.Masked.{maskedFrom}
@@ -149,7 +149,7 @@ module _ {b : OrderBook} (w : WellFormed b) where
       cond (not (hasModel (problemOf b))) (StepAnswer.Refused 9 0)
       (cond (between (given (problemOf b)) known c) (stepSays (stepOf (asking t (problemOf b .costs) c known))) (StepAnswer.Refused 10 0))
 
-  pub step-says : (end on off : ℕ) → stepIn (maskedFrom (kept b)) (table (b .costs)) (record { yes = on; no = off }) ≡ stepAnswer on off (value b end)
+  pub step-says : (end on off : ℕ) → stepIn (maskedFrom (maskedBook b)) (table (b .costs)) (record { yes = on; no = off }) ≡ stepAnswer on off (value b end)
   unfolding stepIn stepAnswer stepFor withModel answerBy problemOf
   step-says end on off = rw (contradicts-has w) (ap₂ (answerBy (record { yes = on; no = off })) (theory-same w) (forced-same w) ∙ cond-swap (hasModel (problemOf b)) _ _)
 

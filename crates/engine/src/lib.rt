@@ -79,10 +79,10 @@ pub fn model(s: &[u8]) -> ModelAnswer
     ensures { λ r. ⌜ ModelCall (now (s .entry)) r ⌝ }
 {
     let reading = book::read(s);
-    let outcome = reading.outcome;
-    match outcome {
-        book::Outcome::Refused { number, place } => ModelAnswer::Refused { number, place },
-        book::Outcome::Accepted => {
+    let verdict = reading.verdict;
+    match verdict {
+        book::Verdict::Refused { number, place } => ModelAnswer::Refused { number, place },
+        book::Verdict::Accepted => {
             let b = reading.book;
             search_model(problem::of_book(b))
         }
@@ -102,8 +102,8 @@ fn search_model(p: MaskedProblem) -> ModelAnswer
         off: p.facts.no,
     };
     match sat::search(p.variables, &yes[..rules], &no[..rules], given, 0) {
-        sat::Outcome::Model(m) => ModelAnswer::Model(m),
-        sat::Outcome::Nothing => ModelAnswer::Refused {
+        sat::SearchResult::Found(m) => ModelAnswer::Model(m),
+        sat::SearchResult::Nothing => ModelAnswer::Refused {
             number: 9,
             place: 0,
         },
@@ -116,10 +116,10 @@ pub fn consequence(s: &[u8]) -> ConsequenceAnswer
     ensures { λ r. ⌜ ConsequenceCall (now (s .entry)) r ⌝ }
 {
     let reading = book::read(s);
-    let outcome = reading.outcome;
-    match outcome {
-        book::Outcome::Refused { number, place } => ConsequenceAnswer::Refused { number, place },
-        book::Outcome::Accepted => {
+    let verdict = reading.verdict;
+    match verdict {
+        book::Verdict::Refused { number, place } => ConsequenceAnswer::Refused { number, place },
+        book::Verdict::Accepted => {
             let b = reading.book;
             propagate(problem::of_book(b))
         }
@@ -153,10 +153,10 @@ pub fn next_step(s: &[u8], known_yes: u64, known_no: u64) -> StepAnswer
     ensures { λ r. ⌜ StepCall (now (s .entry)) «known_yes» «known_no» r ⌝ }
 {
     let reading = book::read(s);
-    let outcome = reading.outcome;
-    match outcome {
-        book::Outcome::Refused { number, place } => StepAnswer::Refused { number, place },
-        book::Outcome::Accepted => {
+    let verdict = reading.verdict;
+    match verdict {
+        book::Verdict::Refused { number, place } => StepAnswer::Refused { number, place },
+        book::Verdict::Accepted => {
             let costs = book::read_costs(s);
             let b = reading.book;
             let known = LiteralSet {
@@ -250,10 +250,10 @@ pub fn log(s: &[u8], buffer: &mut [u8]) -> LogAnswer
     ensures { λ r. ⌜ LogCall (now (s .entry)) (now (buffer .entry)) (now (buffer .exit)) r ⌝ }
 {
     let reading = book::read(s);
-    let outcome = reading.outcome;
-    match outcome {
-        book::Outcome::Refused { number, place } => LogAnswer::Refused { number, place },
-        book::Outcome::Accepted => {
+    let verdict = reading.verdict;
+    match verdict {
+        book::Verdict::Refused { number, place } => LogAnswer::Refused { number, place },
+        book::Verdict::Accepted => {
             if buffer.len() < Book::MAX_LOG {
                 return LogAnswer::Refused {
                     number: 8,

@@ -1,2 +1,2 @@
-mod Grow
+mod WithLaws
 mod Signed

@@ -1,4 +1,4 @@
 pub mod Literal
 pub mod Truth
-pub mod Grown
+pub mod WithLiteral
 pub mod Laws

@@ -1,8 +1,9 @@
 // Literals as signed bytes, and sets of literals as two masks.
 ghost use mathlib.Core.Path.{_≡_};
 ghost use Prim.Native.Nat.{_≤_, _<_};
+ghost use Rattle.sets.specs.Sets.{width};
 ghost use Rattle.literals.specs.Literal.{variable, ofByte, byteOf};
-ghost use Rattle.literals.specs.Grown.{Grown};
+ghost use Rattle.literals.specs.WithLiteral.{WithLiteral};
 
 // The literal that a byte is: a signed byte in two's complement.
 pub fn of_byte(b: u8) -> i8
@@ -46,8 +47,8 @@ impl LiteralSet {
     // The set with one literal more.
     pub fn with(self, l: i8) -> LiteralSet
         requires { ⌜ 0 < variable l ⌝ }
-        requires { ⌜ variable l ≤ 64 ⌝ }
-        ensures { λ r. ⌜ Grown self l r ⌝ }
+        requires { ⌜ variable l ≤ width ⌝ }
+        ensures { λ r. ⌜ WithLiteral self l r ⌝ }
     {
         let v = (variable(l) - 1) as u32;
         if 0 < l {

@@ -7,7 +7,7 @@ use native.Mathlib.Numerals.{add-one}
 use native.Mathlib.Omega.{arith}
 use lib.ListN.{length, set, length-append, length-map}
 use lib.Seq.{sets}
-use Rattle.sets.specs.Sets.{has, union, count, members, membersBelow, remove, Least, Lowest}
+use Rattle.sets.specs.Sets.{has, union, count, members, membersBelow, remove, LeastMember, Lowest, width}
 use Rattle.sets.specs.Laws.Bits.{remove-lt}
 use Rattle.sets.specs.Laws.Count.{ones-remove}
 use Rattle.sets.specs.Laws.Members.{members-zero, members-length, members-below, members-least}
@@ -28,15 +28,15 @@ pub list-bytes : (on off : ℕ) → listBytes (literalsOf on off) ≡ count (uni
 unfolding listBytes literalsOf
 list-bytes on off = ap₂ (λ (n : ℕ) (l : List ℕ). n ∷ l) (list-length-is on off) (map-twice byteOf (λ v. literalOf v (has on v)) (members (union on off)))
 
-pub members-count : (m : ℕ) → m < 2 ^ 64 → length (members m) ≡ count m
-members-count m h = ap length (sym (members-below 64 m h)) ∙ members-length 64 m h
+pub members-count : (m : ℕ) → m < 2 ^ width → length (members m) ≡ count m
+members-count m h = ap length (sym (members-below width m h)) ∙ members-length width m h
 
-pub list-length : (on off : ℕ) → union on off < 2 ^ 64 → length (listBytes (literalsOf on off)) ≡ suc (count (union on off))
+pub list-length : (on off : ℕ) → union on off < 2 ^ width → length (listBytes (literalsOf on off)) ≡ suc (count (union on off))
 list-length on off h = ap length (list-bytes on off) ∙ ap suc (length-map (members (union on off)) (memberByte on) ∙ members-count (union on off) h)
 
 -- the least member, and the others
-least-first : (m v : ℕ) → m < 2 ^ 64 → Least m v → members m ≡ v ∷ members (remove m v)
-least-first m v h l = sym (members-below 64 m h) ∙ members-least 64 m v h l ∙ ap (λ r. v ∷ r) (members-below 64 (remove m v) (remove-lt 64 m v h))
+least-first : (m v : ℕ) → m < 2 ^ width → LeastMember m v → members m ≡ v ∷ members (remove m v)
+least-first m v h l = sym (members-below width m h) ∙ members-least width m v h l ∙ ap (λ r. v ∷ r) (members-below width (remove m v) (remove-lt width m v h))
 
 none-left : members 0 ≡ []
 none-left = sym (members-below 0 0 (omega arith)) ∙ members-zero 0
@@ -47,9 +47,9 @@ module _ (out₀ : List ℕ) (start : ℕ) (f : ℕ → ℕ) (all : ℕ) where
     pub done : List ℕ
     pub split : members all ≡ done ++ members rest
     pub put : Put out₀ start (map f done) out i
-    pub below : rest < 2 ^ 64
+    pub below : rest < 2 ^ width
 
-  pub listing-none : all < 2 ^ 64 → Listing out₀ all start
+  pub listing-none : all < 2 ^ width → Listing out₀ all start
   listing-none h = record { done = []; split = refl; put = put-none out₀ start; below = h }
 
   module _ {out : List ℕ} {rest i : ℕ} (w : Listing out rest i) {v : ℕ} (least : Lowest rest v) where
@@ -66,7 +66,7 @@ module _ (out₀ : List ℕ) (start : ℕ) (f : ℕ → ℕ) (all : ℕ) where
       done = w .done ++ (v ∷ []);
       split = next ∙ sym (append-assoc (w .done) (v ∷ []) (members (remove rest v)));
       put = rw (map-append f (w .done) (v ∷ []), e) (put-append (map f (w .done)) (f v ∷ []) (w .put) (put-byte out i (f v)));
-      below = remove-lt 64 rest v (w .below);
+      below = remove-lt width rest v (w .below);
     }
 
     pub listing-less : count (remove rest v) < count rest

@@ -16,7 +16,7 @@ use Rattle.sets.specs.Laws.Bits.{bit-le, bit-union, bit-diff, union-lt, member-
 use Rattle.sets.specs.Laws.Subset.{within-le}
 use Rattle.sets.specs.Laws.Count.{ones-union, ones-within, ones-proper}
 use Rattle.literals.specs.declared.LiteralSet.{LiteralSet}
-use Rattle.book.specs.Limits.{maxChoices, maxLog}
+use Rattle.book.specs.Limits.{maxChoices, maxStepBytes, maxLog}
 use Rattle.consequence.specs.Contracts.{maskTheory}
 use Rattle.step.specs.Meaning.{Question, Step, Answer, nothingLeft, noCandidate, step, stepOf, literalOf, goals, yesGoals, noGoals}
 use Rattle.step.specs.Contracts.{Asked, maskQuestion, nextOf}
@@ -129,7 +129,7 @@ module _ {n : ℕ} {ys ns : List ℕ} {ch : ℕ} {table : List (List ℕ)} {c fa
     unfolding learnt
     learnt-few = inside _ (s .new-on) (s .new-off) (λ v. new-yes-within .keeps v) (λ v. new-no-within .keeps v) refl
 
-    pub step-short : length (stepBytes s) ≤ maxChoices + 7
+    pub step-short : length (stepBytes s) ≤ maxStepBytes
     unfolding reasons learnt
     step-short =
         omega (
@@ -154,7 +154,7 @@ module _ {n : ℕ} {ys ns : List ℕ} {ch : ℕ} {table : List (List ℕ)} {c fa
     pub summed : total ≡ totalOf taken
     pub asked : Asked n ys ns ch table c known
     pub left : steps + count (goals (maskQuestion n ys ns ch table c known)) ≤ maxChoices
-    pub short : at ≤ (maxChoices + 7) * steps
+    pub short : at ≤ maxStepBytes * steps
     pub cheap : total ≤ 65535 * steps
 
   goals-few : (known : LiteralSet) → Asked n ys ns ch table c known → count (goals (maskQuestion n ys ns ch table c known)) ≤ maxChoices

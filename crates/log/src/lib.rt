@@ -1,4 +1,5 @@
 // The log: writing its records, and the whole log of a problem.
+ghost use Rattle.sets.specs.Sets.{width};
 ghost use mathlib.Core.Path.{_≡_};
 ghost use mathlib.Core.Bool.{true};
 ghost use mathlib.Core.List.{[], _∷_, _++_};
@@ -24,16 +25,12 @@ pub fn at_step(s: &[u8]) -> bool
     if s.len() < 2 {
         return false;
     }
-    if s[0] == ST[0] {
-        s[1] == ST[1]
-    } else {
-        false
-    }
+    if s[0] == ST[0] { s[1] == ST[1] } else { false }
 }
 
 // The byte of a set's literal over variable `v` + 1.
 fn member_byte(set: LiteralSet, v: u32) -> u8
-    requires { ⌜ v < 64 ⌝ }
+    requires { ⌜ v < width ⌝ }
     ensures { λ r. ⌜ r ≡ memberByte (set .yes) v ⌝ }
 {
     if sets::has(set.yes, v) {

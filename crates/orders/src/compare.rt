@@ -1,6 +1,6 @@
 // The reader's answer held against the reckoning, or against a number and a place.
 use book::Book;
-use book::Outcome;
+use book::Verdict;
 use samples::build;
 use samples::build::Draft;
 use samples::reckon;
@@ -33,10 +33,10 @@ pub fn next_group(mut t: Tally) -> Tally {
 }
 
 // Whether the reader's answer has this number and this place; number 0 stands for a book that is accepted.
-fn says(outcome: Outcome, number: u8, place: usize) -> bool {
-    match outcome {
-        Outcome::Accepted => number == 0,
-        Outcome::Refused {
+fn says(verdict: Verdict, number: u8, place: usize) -> bool {
+    match verdict {
+        Verdict::Accepted => number == 0,
+        Verdict::Refused {
             number: found,
             place: at,
         } => {
@@ -108,8 +108,8 @@ fn same_book(book: Book, due: Reckoned) -> bool {
 // Whether the reader gives what is reckoned, the book beside a refusal and the costs included.
 fn agrees(s: &[u8], due: Reckoned) -> bool {
     let reading = book::read(s);
-    let outcome = reading.outcome;
-    if !says(outcome, due.number, due.place) {
+    let verdict = reading.verdict;
+    if !says(verdict, due.number, due.place) {
         return false;
     }
     let book = reading.book;
@@ -123,8 +123,8 @@ fn agrees(s: &[u8], due: Reckoned) -> bool {
 // Whether the reader gives this number and place.
 fn answers(s: &[u8], number: u8, place: usize) -> bool {
     let reading = book::read(s);
-    let outcome = reading.outcome;
-    says(outcome, number, place)
+    let verdict = reading.verdict;
+    says(verdict, number, place)
 }
 
 // One more book that was reckoned, good or refused with a number.

@@ -2,7 +2,7 @@
 use crate::fillings;
 use crate::fillings::Fillings;
 use crate::fillings::Literals;
-use book::Outcome;
+use book::Verdict;
 use engine::ConsequenceAnswer;
 use engine::ModelAnswer;
 use samples::build;
@@ -125,10 +125,10 @@ fn good(t: Tally, s: &[u8], b: Reckoned) -> Tally {
 // Whether the reader refuses the bytes with this number and place.
 fn reader_refuses(s: &[u8], number: u8, place: usize) -> bool {
     let reading = book::read(s);
-    let outcome = reading.outcome;
-    match outcome {
-        Outcome::Accepted => false,
-        Outcome::Refused {
+    let verdict = reading.verdict;
+    match verdict {
+        Verdict::Accepted => false,
+        Verdict::Refused {
             number: due,
             place: at,
         } => same_refusal(number, place, due, at),

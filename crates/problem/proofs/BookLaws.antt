@@ -22,8 +22,8 @@ use Rattle.literals.specs.Truth.{yesBit, noBit, yesMask, noMask}
 use Rattle.literals.specs.Laws.{Proper}
 use Rattle.book.specs.Limits.{maxVariables, maxChoices, maxRules, maxCost}
 use Rattle.book.specs.Format.{OrderBook, Cost, rising}
-use Rattle.book.specs.Answer.{kept, table, row, padded}
-use Rattle.book.proofs.WellFormed.{Each, Rises, GoodCost, WellFormed}
+use Rattle.book.specs.Answer.{maskedBook, table, row, padded}
+use Rattle.book.proofs.WellFormed.{Each, LiteralsRise, GoodCost, WellFormed}
 use Rattle.sat.specs.Contracts.{Posed, Masks}
 use Rattle.sat.specs.Laws.Rules.{Of, masks-none, masks-more, yesMask-lt, noMask-lt}
 use Rattle.problem.specs.Limits.{mostRules}
@@ -130,7 +130,7 @@ cost-bound (c ∷ cs) e k (suc v) column = cost-bound cs (e .1) k v column
 
 -- ---- the problem of an accepted book
 
-all-of : (n : ℕ) (rs : List (List Literal)) → Each (Rises n) rs → AllOf n rs
+all-of : (n : ℕ) (rs : List (List Literal)) → Each (LiteralsRise n) rs → AllOf n rs
 all-of n [] e = tt
 all-of n (r ∷ rs) e = (rising-of n 0 r (e .0 .rises), all-of n rs (e .1))
 

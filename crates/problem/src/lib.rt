@@ -1,4 +1,5 @@
 // The problem that goes through the middle: how it is made from a book, here alone.
+ghost use Rattle.sets.specs.Sets.{width};
 ghost use mathlib.Core.Path.{_≡_};
 ghost use Prim.Native.Nat.{_≤_};
 ghost use Rattle.problem.specs.Masked.{widenedTo, maskedFrom};
@@ -39,8 +40,8 @@ fn widened(masks: [u64; Book::MAX_RULES]) -> [u64; MaskedProblem::MAX_RULES]
 
 // The problem of a book.
 pub fn of_book(b: Book) -> MaskedProblem
-    requires { ⌜ b .variables ≤ 64 ⌝ }
-    requires { ⌜ b .choices ≤ 64 ⌝ }
+    requires { ⌜ b .variables ≤ width ⌝ }
+    requires { ⌜ b .choices ≤ width ⌝ }
     ensures { λ r. ⌜ r ≡ maskedFrom b ⌝ }
 {
     let yes = b.yes;

@@ -65,6 +65,6 @@ rank zero prefer f = 0
 rank (suc n) prefer f = (prefer + f) % 2 * 2 ^ n + rank n (prefer / 2) (f / 2)
 
 -- m is the first model in the order of preference.
-pub record First (n : ℕ) (ys ns : List ℕ) (on off prefer m : ℕ) : Type 0 where
+pub record FirstModel (n : ℕ) (ys ns : List ℕ) (on off prefer m : ℕ) : Type 0 where
   pub model : Model n ys ns on off m
   pub first : (f : ℕ) → Model n ys ns on off f → rank n prefer m ≤ rank n prefer f

@@ -3,6 +3,7 @@
 ghost use mathlib.Core.Path.{_≡_};
 ghost use Prim.Native.Nat.{_<_};
 ghost use lib.ListN.{length};
+ghost use Rattle.sets.specs.Sets.{width};
 ghost use Rattle.sat.specs.Contracts.{Posed, Assigned, Only, Looked, Scanned, Settled, Searched};
 
 // A partial filling: the variables of `on` are yes, those of `off` are no, and the others are not set.
@@ -13,28 +14,28 @@ pub struct Partial {
 
 // What a rule tells under a partial filling: that no filling obeys it, that variable `v` must have the value, or
 // neither.
-pub enum Look {
+enum Look {
     Conflict,
     Forced { v: u32, value: bool },
     Quiet,
 }
 
 // What a pass over all rules tells: that no filling obeys them, that more variables must be set, or neither.
-pub enum Pass {
+enum Pass {
     Clash,
-    Grown(Partial),
+    Extended(Partial),
     Done,
 }
 
 // What the search finds.
-pub enum Outcome {
-    Model(u64),
+pub enum SearchResult {
+    Found(u64),
     Nothing,
 }
 
 // The partial filling with variable `v` set.
 pub fn assign(p: Partial, v: u32, value: bool) -> Partial
-    requires { ⌜ v < 64 ⌝ }
+    requires { ⌜ v < width ⌝ }
     ensures { λ r. ⌜ Assigned (p .on) (p .off) v value (r .on) (r .off) ⌝ }
 {
     if value {
@@ -67,7 +68,7 @@ fn only(free: u64, value: bool) -> Look
 
 // What one rule tells. Most rules have a true literal, or two variables or more that can still make one true, and one
 // test finds those. A rule left with one variable in literals of both signs is always obeyed.
-pub fn look_at(yes: u64, no: u64, p: Partial) -> Look
+fn look_at(yes: u64, no: u64, p: Partial) -> Look
     ensures { λ r. ⌜ Looked yes no (p .on) (p .off) r ⌝ }
 {
     let met = (p.on & yes) | (p.off & no);
@@ -88,7 +89,7 @@ pub fn look_at(yes: u64, no: u64, p: Partial) -> Look
 }
 
 // One pass over the rules. What a rule forces is set at once, so that the rules after it are seen with it.
-pub fn scan(yes: &[u64], no: &[u64], p: Partial) -> Pass
+fn scan(yes: &[u64], no: &[u64], p: Partial) -> Pass
     requires { ⌜ length (now yes) ≡ length (now no) ⌝ }
     ensures { λ r. ⌜ Scanned (now (yes .entry)) (now (no .entry)) (p .on) (p .off) r ⌝ }
 {
@@ -107,39 +108,39 @@ pub fn scan(yes: &[u64], no: &[u64], p: Partial) -> Pass
             Look::Quiet => {}
         }
     }
-    if moved { Pass::Grown(q) } else { Pass::Done }
+    if moved { Pass::Extended(q) } else { Pass::Done }
 }
 
 // The first model. What the rules force is set until they force nothing more; then a variable is tried.
-fn follow(n: u32, yes: &[u64], no: &[u64], p: Partial, prefer: u64) -> Outcome
+fn follow(n: u32, yes: &[u64], no: &[u64], p: Partial, prefer: u64) -> SearchResult
     requires { ⌜ Posed n (now yes) (now no) (p .on) (p .off) ⌝ }
     ensures { λ r. ⌜ Searched n (now (yes .entry)) (now (no .entry)) (p .on) (p .off) prefer r ⌝ }
 {
     let s = scan(yes, no, p);
     match s {
-        Pass::Clash => Outcome::Nothing,
-        Pass::Grown(q) => follow(n, yes, no, q, prefer),
+        Pass::Clash => SearchResult::Nothing,
+        Pass::Extended(q) => follow(n, yes, no, q, prefer),
         Pass::Done => try_variable(n, yes, no, p, prefer),
     }
 }
 
 // The first model, where no rule is a conflict or forces a variable. The lowest variable that is not set weighs most,
 // so its preferred value comes first.
-fn try_variable(n: u32, yes: &[u64], no: &[u64], p: Partial, prefer: u64) -> Outcome
+fn try_variable(n: u32, yes: &[u64], no: &[u64], p: Partial, prefer: u64) -> SearchResult
     requires { ⌜ Settled n (now yes) (now no) (p .on) (p .off) ⌝ }
     ensures { λ r. ⌜ Searched n (now (yes .entry)) (now (no .entry)) (p .on) (p .off) prefer r ⌝ }
 {
     let free = sets::complement(n, sets::union(p.on, p.off));
     if free == 0 {
-        return Outcome::Model(p.on);
+        return SearchResult::Found(p.on);
     }
     let v = sets::lowest(free);
     let value = sets::has(prefer, v);
     let preferred = assign(p, v, value);
     let r = follow(n, yes, no, preferred, prefer);
     match r {
-        Outcome::Model(m) => Outcome::Model(m),
-        Outcome::Nothing => {
+        SearchResult::Found(m) => SearchResult::Found(m),
+        SearchResult::Nothing => {
             let other = assign(p, v, !value);
             follow(n, yes, no, other, prefer)
         }
@@ -147,7 +148,7 @@ fn try_variable(n: u32, yes: &[u64], no: &[u64], p: Partial, prefer: u64) -> Out
 }
 
 // The first model that extends `p`, in the order where variable 1 weighs most and its value in `prefer` comes first.
-pub fn search(n: u32, yes: &[u64], no: &[u64], p: Partial, prefer: u64) -> Outcome
+pub fn search(n: u32, yes: &[u64], no: &[u64], p: Partial, prefer: u64) -> SearchResult
     requires { ⌜ Posed n (now yes) (now no) (p .on) (p .off) ⌝ }
     ensures { λ r. ⌜ Searched n (now (yes .entry)) (now (no .entry)) (p .on) (p .off) prefer r ⌝ }
 {

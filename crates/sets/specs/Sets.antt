@@ -9,6 +9,10 @@ use lib.Dec.{eqb}
 use lib.Bits.{bitAnd, bitOr}
 use lib.Count.{ones}
 
+-- The elements that a mask of the code has room for.
+abbrev pub width : ℕ
+width = 64
+
 -- Digit v of m: 1 where v is in the set m, and 0 where it is not.
 unfoldable pub bit : ℕ → ℕ → ℕ
 bit m zero = m % 2
@@ -103,16 +107,16 @@ pub record Apart (a b : ℕ) : Type 0 where
   pub avoids : (v : ℕ) → bit a v + bit b v ≤ 1
 
 -- r is the least element of m.
-pub record Least (m r : ℕ) : Type 0 where
+pub record LeastMember (m r : ℕ) : Type 0 where
   pub member : bit m r ≡ 1
   pub first : (u : ℕ) → u < r → bit m u ≡ 0
 
--- What `lowest` gives: the least element, below the 64 of the mask.
+-- What `lowest` gives: the least element, which is one that a mask has room for.
 pub record Lowest (m r : ℕ) : Type 0 where
-  pub within : r < 64
-  pub least : Least m r
+  pub within : r < width
+  pub least : LeastMember m r
 
--- What `count` gives: how many elements m has, at most the 64 of the mask.
+-- What `count` gives: how many elements m has, at most as many as a mask has room for.
 pub record Counted (m r : ℕ) : Type 0 where
-  pub within : r ≤ 64
+  pub within : r ≤ width
   pub counts : r ≡ count m

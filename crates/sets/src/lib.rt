@@ -1,13 +1,13 @@
-// Sets of small numbers as masks: element `v` is in the set `m` where bit `v` of `m` is 1. An element is below 64.
+// Sets of small numbers as masks: element `v` is in the set `m` where bit `v` of `m` is 1. An element is below `width`.
 // Each function says by an equation which set of `specs/Sets.antt` it gives; what follows of it is in `specs/Laws/`.
 ghost use mathlib.Core.Path.{_≡_};
 ghost use Prim.Native.Nat.{_≤_, _<_};
 ghost use Rattle.sets.specs.Sets as set;
-ghost use Rattle.sets.specs.Sets.{Lowest, Counted};
+ghost use Rattle.sets.specs.Sets.{width, Lowest, Counted};
 
 // Whether `v` is in `m`.
 pub fn has(m: u64, v: u32) -> bool
-    requires { ⌜ v < 64 ⌝ }
+    requires { ⌜ v < width ⌝ }
     ensures { λ r. ⌜ r ≡ set.has m v ⌝ }
 {
     (m >> v) & 1 == 1
@@ -15,7 +15,7 @@ pub fn has(m: u64, v: u32) -> bool
 
 // The set of `v` alone.
 pub fn single(v: u32) -> u64
-    requires { ⌜ v < 64 ⌝ }
+    requires { ⌜ v < width ⌝ }
     ensures { λ r. ⌜ r ≡ set.single v ⌝ }
 {
     1u64 << v
@@ -23,7 +23,7 @@ pub fn single(v: u32) -> u64
 
 // The set of all elements below `n`. A shift by 64 is not defined, so that case stands apart.
 pub fn full(n: u32) -> u64
-    requires { ⌜ n ≤ 64 ⌝ }
+    requires { ⌜ n ≤ width ⌝ }
     ensures { λ r. ⌜ r ≡ set.full n ⌝ }
 {
     if n < 64 { single(n) - 1 } else { !0u64 }
@@ -52,7 +52,7 @@ pub fn difference(a: u64, b: u64) -> u64
 
 // The elements below `n` that are not in `m`.
 pub fn complement(n: u32, m: u64) -> u64
-    requires { ⌜ n ≤ 64 ⌝ }
+    requires { ⌜ n ≤ width ⌝ }
     ensures { λ r. ⌜ r ≡ set.compl n m ⌝ }
 {
     difference(full(n), m)
@@ -60,7 +60,7 @@ pub fn complement(n: u32, m: u64) -> u64
 
 // `m` with `v`.
 pub fn insert(m: u64, v: u32) -> u64
-    requires { ⌜ v < 64 ⌝ }
+    requires { ⌜ v < width ⌝ }
     ensures { λ r. ⌜ r ≡ set.insert m v ⌝ }
 {
     m | single(v)
@@ -68,7 +68,7 @@ pub fn insert(m: u64, v: u32) -> u64
 
 // `m` without `v`.
 pub fn remove(m: u64, v: u32) -> u64
-    requires { ⌜ v < 64 ⌝ }
+    requires { ⌜ v < width ⌝ }
     ensures { λ r. ⌜ r ≡ set.remove m v ⌝ }
 {
     difference(m, single(v))

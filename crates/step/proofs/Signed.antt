@@ -1,4 +1,5 @@
 -- Literals as signed bytes: making one, and reading its cost. Assumes nothing.
+use Rattle.sets.specs.Sets.{width}
 use mathlib.Core.Path.{_≡_, refl, ap, _∙_}
 use mathlib.Core.Bool.{Bool, true, false, false≢true}
 use mathlib.Core.List.{List, []}
@@ -33,24 +34,24 @@ no-cost table (negsuc v) r e h t = let i : r - 1 ≡ v = omega arith in ap (λ (
 -- ---- `literal`
 
 -- v + 1 as a signed byte, and its opposite
-plain : (v : ℕ) → v < 64 → toZ w8 (v + 1) ≡ pos (suc v)
+plain : (v : ℕ) → v < width → toZ w8 (v + 1) ≡ pos (suc v)
 plain v h = let small : v + 1 < 128 = omega arith in toZ-pos w8 small ∙ ap pos (omega arith)
 
-minus : (v : ℕ) → v < 64 → pos 0 -ℤ toZ w8 (v + 1) ≡ negsuc v
+minus : (v : ℕ) → v < width → pos 0 -ℤ toZ w8 (v + 1) ≡ negsuc v
 minus v h = rw (plain v h) (rw (lt-ltb 0 (suc v) (omega arith)) (ap negsuc (omega arith)))
 
-pub opposite-fits : (v : ℕ) → v < 64 → SFits w8 (pos 0 -ℤ toZ w8 (v + 1))
+pub opposite-fits : (v : ℕ) → v < width → SFits w8 (pos 0 -ℤ toZ w8 (v + 1))
 opposite-fits v h = rw (minus v h) (record { sfits = omega arith })
 
-pub yes-literal : (v : ℕ) (says : Bool) → v < 64 → says ≡ true → toZ w8 (v + 1) ≡ literalOf v says
+pub yes-literal : (v : ℕ) (says : Bool) → v < width → says ≡ true → toZ w8 (v + 1) ≡ literalOf v says
 yes-literal v says h e = rw (e, plain v h) refl
 
-pub no-literal : (v : ℕ) (says : Bool) → v < 64 → says ≡ false → toZ w8 (ofZ w8 (pos 0 -ℤ toZ w8 (v + 1))) ≡ literalOf v says
+pub no-literal : (v : ℕ) (says : Bool) → v < width → says ≡ false → toZ w8 (ofZ w8 (pos 0 -ℤ toZ w8 (v + 1))) ≡ literalOf v says
 no-literal v says h e = rw (toZ-ofZ (opposite-fits v h)) (rw e (minus v h))
 
 -- ---- a literal that is handed on
 
-pub same-literal : (v : ℕ) (says : Bool) (l : ℤ) → l ≡ literalOf v says → v < 64 → toZ w8 (ofZ w8 l) ≡ literalOf v says
+pub same-literal : (v : ℕ) (says : Bool) (l : ℤ) → l ≡ literalOf v says → v < width → toZ w8 (ofZ w8 l) ≡ literalOf v says
 same-literal v says l e h = rw e (go says)
   where
     go : (b : Bool) → toZ w8 (ofZ w8 (literalOf v b)) ≡ literalOf v b

@@ -1,7 +1,7 @@
 // The next step: the cheapest set of known literals that forces a literal still unknown.
 ghost use mathlib.Core.Path.{_≡_};
 ghost use Prim.Native.Nat.{_<_, _≤_};
-ghost use Rattle.sets.specs.Sets.{Apart};
+ghost use Rattle.sets.specs.Sets.{Apart, width};
 ghost use Rattle.literals.specs.Literal.{variable};
 ghost use Rattle.book.specs.Limits.{maxChoices};
 ghost use Rattle.problem.specs.Problem.{literalCost};
@@ -10,8 +10,8 @@ ghost use Rattle.step.specs.Contracts.{weightOf, Weighed, keyOf, Small, 
 use book::Book;
 use consequence::Consequence;
 use literals::LiteralSet;
-use sat::Outcome;
 use sat::Partial;
+use sat::SearchResult;
 
 // The answer: the step, that every literal of the consequence is known, or that no candidate is left.
 pub enum Next {
@@ -53,7 +53,7 @@ const VARIABLES: u64 = Book::MAX_CHOICES as u64;
 
 // The literal over variable v + 1.
 fn literal(v: u32, says: bool) -> i8
-    requires { ⌜ v < 64 ⌝ }
+    requires { ⌜ v < width ⌝ }
     ensures { λ r. ⌜ r ≡ literalOf v says ⌝ }
 {
     let l = (v + 1) as i8;
@@ -117,7 +117,7 @@ fn key(cost: u64, goal: u32, set: u64) -> u64
 
 // The reasons over the variables of a set, and the opposite of the goal.
 fn against(aim: Aim, set: u64) -> Partial
-    requires { ⌜ aim .goal < 64 ⌝ }
+    requires { ⌜ aim .goal < width ⌝ }
     ensures { λ r. ⌜ Against aim set (r .on) (r .off) ⌝ }
 {
     let reasons = Partial {
@@ -150,8 +150,8 @@ fn explore(n: u32, yes: &[u64], no: &[u64], weights: &[u16], aim: Aim, part: Par
     }
     let question = against(aim, part.chosen);
     match sat::search(n, yes, no, question, aim.on) {
-        Outcome::Nothing => here,
-        Outcome::Model(m) => {
+        SearchResult::Nothing => here,
+        SearchResult::Found(m) => {
             let witness = denied(aim, m);
             branch(n, yes, no, weights, aim, part, witness, best)
         }

@@ -3,7 +3,7 @@ use native.Mathlib.Omega.{arith}
 use denote.Ref.{now}
 use Rattle.book.specs.Format.{says, headerAt, readBook}
 use Rattle.book.specs.Answer.{bookAnswer, headerOf}
-use Rattle.book.proofs.BookLaws.{HeaderSaid, HeaderWhole, header-fails, header-says, header-whole, many-within, passed-refused, passed-to, costs-beside}
+use Rattle.book.proofs.BookLaws.{HeaderSaid, HeaderWhole, header-fails, header-says, header-whole, many-within, place-refused, place-at, costs-beside}
 use Rattle.book.proofs.CheckLaws.{cost-within}
 use borrow.Author.Needs.{needs}
 use Rattle.book.proofs.read.Statement.{statement}
@@ -25,39 +25,30 @@ header c = let h = header-whole _ (heading c .said) in rw (h .size) at h
 said : (c : tie.After-known-told2) → headerAt (now (c .before .before .before .before .before .args .s)) ≡ says (headerOf (c .before .variables .given .0 .0) (c .before .variables .given .0 .1 .0) (c .before .variables .given .0 .1 .1 .0)) 5
 said c = rw (header-whole _ (heading c .said) .size) at (heading c .said)
 
--- src/lib.rt:86:11
 read-header-requires : tie.Need-read-header-requires
 read-header-requires c κs = search needs
 
--- src/lib.rt:87:27
 enum-known-number : tie.Need-enum-known-number
 enum-known-number c = search needs
 
--- src/lib.rt:87:38
 refuse-requires : tie.Need-refuse-requires
 refuse-requires c κs = search needs
 
--- src/lib.rt:89:13
 enum-known-variables : tie.Need-enum-known-variables
 enum-known-variables c = search needs
 
--- src/lib.rt:92:20
 check-costs-requires : tie.Need-check-costs-requires
 check-costs-requires c κs = header c .within
 
--- src/lib.rt:93:31
 enum-known-number-2 : tie.Need-enum-known-number-2
 enum-known-number-2 c = search needs
 
--- src/lib.rt:93:50
 refuse-requires-2 : tie.Need-refuse-requires-2
 refuse-requires-2 c κs = search needs
 
--- src/lib.rt:94:24
 enum-known-place : tie.Need-enum-known-place
 enum-known-place c = search needs
 
--- src/lib.rt:94:34
 read-from-rules-requires : tie.Need-read-from-rules-requires
 read-from-rules-requires c κs =
     let h = header (c .before .before .before .before) in (
@@ -66,27 +57,24 @@ read-from-rules-requires c κs =
         omega (arith, h .few-choices),
         (
           h .few-rules,
-          many-within _ _ (λ i t a len e. cost-within i t e) _ _ _ (h .within) (passed-to _ (c .before .before .before .check-costs .ensures) (c .before .place .given .1) .1),
+          many-within _ _ (λ i t a len e. cost-within i t e) _ _ _ (h .within) (place-at _ (c .before .before .before .check-costs .ensures) (c .before .place .given .1) .1),
         ),
       ),
     )
 
--- src/lib.rt:83:1
 returns : tie.Need-returns
 unfolding readBook bookAnswer
 returns c = rw (header-fails _ (c .before .before .before .before .read-header .ensures) (c .before .before .number .given .1)) (c .refuse .ensures)
 
--- src/lib.rt:83:1
 returns-2 : tie.Need-returns-2
 unfolding readBook bookAnswer
 returns-2 c =
-    rw (said (c .before .before .before .before .before), passed-refused _ (c .before .before .before .before .check-costs .ensures) (c .before .before .number2 .given .1)) (c .refuse2 .ensures)
+    rw (said (c .before .before .before .before .before), place-refused _ (c .before .before .before .before .check-costs .ensures) (c .before .before .number2 .given .1)) (c .refuse2 .ensures)
 
--- src/lib.rt:83:1
 returns-3 : tie.Need-returns-3
 unfolding readBook bookAnswer
 returns-3 c =
-    let m = passed-to _ (c .before .before .before .before .check-costs .ensures) (c .before .before .place .given .1) in
+    let m = place-at _ (c .before .before .before .before .check-costs .ensures) (c .before .before .place .given .1) in
     rw (said (c .before .before .before .before .before), m .1) (c .read-from-rules .ensures ∙ costs-beside _ _ (m .0) _)
 
 pub read-spec : {M : Type 1} → statement M

@@ -16,31 +16,25 @@ use Rattle.book.proofs.read.Reads as read-reads
 said : (c : tie.After-enum-told2) → BookSaid (readBook (now (c .before .before .before .before .args .s))) (c .before .before .read .result)
 said c = book-says _ (c .before .before .read .ensures) (c .enum-told2 .given .1)
 
--- src/lib.rt:148:9
 read-requires : tie.Need-read-requires
 read-requires c κs = search needs
 
--- src/lib.rt:154:15
 enum-told : tie.Need-enum-told
 enum-told c = search needs
 
--- src/lib.rt:156:17
 enum-told-2 : tie.Need-enum-told-2
 enum-told-2 c = search needs
 
--- src/lib.rt:157:13
 cost-table-requires : tie.Need-cost-table-requires
 cost-table-requires c κs =
     let r = said c in
     let h = parts _ (r .said) .header-good in
     rw (r .keeps) (h .few-choices, omega (arith, h .within))
 
--- src/lib.rt:145:1
 returns : tie.Need-returns
 unfolding tableAnswer table padded
 returns c = rw (book-refused _ (c .before .before .read .ensures) (c .enum-told .given .1)) refl
 
--- src/lib.rt:145:1
 returns-2 : tie.Need-returns-2
 unfolding tableAnswer
 returns-2 c =

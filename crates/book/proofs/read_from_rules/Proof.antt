@@ -14,69 +14,56 @@ use Rattle.book.proofs.facts.read_facts.Reads as read-facts-reads
 use Rattle.book.proofs.refuse.Reads as refuse-reads
 use Rattle.book.proofs.rules.read_rules.Reads as read-rules-reads
 
--- src/lib.rt:107:9
 read-rules-requires : tie.Need-read-rules-requires
 read-rules-requires c κs = search needs
 
--- src/lib.rt:110:27
-enum-known-passed : tie.Need-enum-known-passed
-enum-known-passed c = search needs
+enum-known-after : tie.Need-enum-known-after
+enum-known-after c = search needs
 
--- src/lib.rt:110:46
 refuse-requires : tie.Need-refuse-requires
 refuse-requires c κs = search needs
 
--- src/lib.rt:111:20
-enum-known-passed-2 : tie.Need-enum-known-passed-2
-enum-known-passed-2 c = search needs
+enum-known-after-2 : tie.Need-enum-known-after-2
+enum-known-after-2 c = search needs
 
--- src/lib.rt:111:36
 read-facts-requires : tie.Need-read-facts-requires
 read-facts-requires c κs =
-    (c .before .before .before .before .before .pre .1 .0, many-within _ _ (λ i t a len. rule-size _ t) _ _ _ (c .before .before .before .before .before .pre .1 .1 .1) (rules-say _ (c .before .before .before .read-rules .ensures) (c .before .passed2 .given .1) .said))
+    (c .before .before .before .before .before .pre .1 .0, many-within _ _ (λ i t a len. rule-size _ t) _ _ _ (c .before .before .before .before .before .pre .1 .1 .1) (rules-say _ (c .before .before .before .read-rules .ensures) (c .before .after2 .given .1) .said))
 
--- src/lib.rt:112:34
 enum-known-number : tie.Need-enum-known-number
 enum-known-number c = search needs
 
--- src/lib.rt:112:53
 refuse-requires-2 : tie.Need-refuse-requires-2
 refuse-requires-2 c κs = search needs
 
--- src/lib.rt:113:31
 enum-known-set : tie.Need-enum-known-set
 enum-known-set c = search needs
 
--- src/lib.rt:115:21
 refuse-requires-3 : tie.Need-refuse-requires-3
 refuse-requires-3 c κs = search needs
 
--- src/lib.rt:115:21
 returns : tie.Need-returns
 unfolding fromRules bookAnswer
 returns c =
     rw (
-      rules-say _ (c .before .before .before .before .before .before .before .before .before .read-rules .ensures) (c .before .before .before .before .before .before .before .passed2 .given .1) .said,
+      rules-say _ (c .before .before .before .before .before .before .before .before .before .read-rules .ensures) (c .before .before .before .before .before .before .before .after2 .given .1) .said,
       facts-say _ (c .before .before .before .before .before .read-facts .ensures) (c .before .before .before .set .given .1) .said,
       lt-ltb _ _ (c .before .if1 .taken),
     ) (c .refuse3 .ensures)
 
--- src/lib.rt:100:1
 returns-2 : tie.Need-returns-2
 unfolding fromRules bookAnswer
-returns-2 c = rw (rules-refused _ (c .before .before .before .before .read-rules .ensures) (c .before .before .passed .given .1)) (c .refuse .ensures)
+returns-2 c = rw (rules-refused _ (c .before .before .before .before .read-rules .ensures) (c .before .before .after .given .1)) (c .refuse .ensures)
 
--- src/lib.rt:100:1
 returns-3 : tie.Need-returns-3
 unfolding fromRules bookAnswer
 returns-3 c =
-    rw (rules-say _ (c .before .before .before .before .before .before .before .before .read-rules .ensures) (c .before .before .before .before .before .before .passed2 .given .1) .said, facts-refused-at _ (c .before .before .before .before .read-facts .ensures) (c .before .before .number .given .1)) (c .refuse2 .ensures)
+    rw (rules-say _ (c .before .before .before .before .before .before .before .before .read-rules .ensures) (c .before .before .before .before .before .before .after2 .given .1) .said, facts-refused-at _ (c .before .before .before .before .read-facts .ensures) (c .before .before .number .given .1)) (c .refuse2 .ensures)
 
--- src/lib.rt:100:1
 returns-4 : tie.Need-returns-4
 unfolding fromRules bookAnswer
 returns-4 c =
-    let r = rules-say _ (c .before .before .before .before .before .before .before .before .before .before .read-rules .ensures) (c .before .before .before .before .before .before .before .before .passed2 .given .1) in
+    let r = rules-say _ (c .before .before .before .before .before .before .before .before .before .before .read-rules .ensures) (c .before .before .before .before .before .before .before .before .after2 .given .1) in
     let f = facts-say _ (c .before .before .before .before .before .before .read-facts .ensures) (c .before .before .before .before .set .given .1) in
     rw (r .said, f .said, le-ltb _ _ (c .before .before .if1 .left)) (accepted _ _ _ (length (now (c .before .before .before .before .before .before .before .before .before .before .before .before .args .s))) (r .rules) (f .facts) (r .yes-masks) (r .no-masks) (f .as-masks))
 
@@ -85,9 +72,9 @@ read-from-rules-spec =
     tie.close
     (tie.spec
     read-rules-requires
-    enum-known-passed
+    enum-known-after
     refuse-requires
-    enum-known-passed-2
+    enum-known-after-2
     read-facts-requires
     enum-known-number
     refuse-requires-2

@@ -6,11 +6,9 @@ use Rattle.book.proofs.refuse.Reads as reads
 use Rattle.book.proofs.refuse.Lts as lts
 use Rattle.book.proofs.Book.empty.Reads as empty-reads
 
--- src/lib.rt:77:15
 empty-requires : tie.Need-empty-requires
 empty-requires c κs = search needs
 
--- src/lib.rt:72:1
 returns : tie.Need-returns
 returns c = rw (c .empty .ensures) refl
 

@@ -2,7 +2,7 @@ use mathlib.Core.Path.{_≡_, refl, ap, _∙_}
 use native.Mathlib.Omega.{arith}
 use denote.Ref.{now}
 use Rattle.book.specs.Format.{readBook}
-use Rattle.book.specs.Answer.{kept}
+use Rattle.book.specs.Answer.{maskedBook}
 use Rattle.book.proofs.PartLaws.{BookSaid, book-says, book-refused}
 use Rattle.book.proofs.WellFormed.{WellFormed, well-formed}
 use Rattle.problem.specs.Masked.{maskedFrom}
@@ -26,7 +26,7 @@ good : (c : tie.After-enum-told) → WellFormed (said c .book)
 good c = well-formed _ (said c .said)
 
 -- and the problem that is made of it
-posed : (c : tie.After-of-book) → c .of-book .result ≡ maskedFrom (kept (said (c .before .before) .book))
+posed : (c : tie.After-of-book) → c .of-book .result ≡ maskedFrom (maskedBook (said (c .before .before) .book))
 posed c = c .of-book .ensures ∙ ap maskedFrom (said (c .before .before) .keeps)
 
 -- src/lib.rt:85:9
@@ -34,8 +34,8 @@ read-requires : tie.Need-read-requires
 read-requires c κs = search needs
 
 -- src/lib.rt:88:34
-enum-known-outcome : tie.Need-enum-known-outcome
-enum-known-outcome c = search needs
+enum-known-verdict : tie.Need-enum-known-verdict
+enum-known-verdict c = search needs
 
 -- src/lib.rt:90:17
 enum-told : tie.Need-enum-told
@@ -53,7 +53,7 @@ propagate-requires c κs = rw (posed c) (searchable (good (c .before .before)))
 -- src/lib.rt:82:1
 returns : tie.Need-returns
 unfolding consequenceAnswer withModel
-returns c = consequence-call (rw (book-refused _ (c .before .before .before .read .ensures) (c .before .outcome .given .1)) refl)
+returns c = consequence-call (rw (book-refused _ (c .before .before .before .read .ensures) (c .before .verdict .given .1)) refl)
 
 -- src/lib.rt:82:1
 returns-2 : tie.Need-returns-2
@@ -64,7 +64,7 @@ consequence-spec =
     tie.close
     (tie.spec
     read-requires
-    enum-known-outcome
+    enum-known-verdict
     enum-told
     of-book-requires
     propagate-requires

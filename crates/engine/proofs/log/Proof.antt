@@ -2,7 +2,7 @@ use mathlib.Core.Path.{_≡_, refl, ap, _∙_}
 use native.Mathlib.Omega.{arith}
 use denote.Ref.{now}
 use Rattle.book.specs.Format.{readBook}
-use Rattle.book.specs.Answer.{kept, table, tableAnswer}
+use Rattle.book.specs.Answer.{maskedBook, table, tableAnswer}
 use Rattle.book.proofs.PartLaws.{BookSaid, book-says, book-refused}
 use Rattle.book.proofs.WellFormed.{WellFormed, well-formed}
 use Rattle.problem.specs.Masked.{maskedFrom}
@@ -26,7 +26,7 @@ good : (c : tie.After-enum-told) → WellFormed (said c .book)
 good c = well-formed _ (said c .said)
 
 -- the problem that is made of it, and its costs
-posed : (c : tie.After-of-book) → c .of-book .result ≡ maskedFrom (kept (said (c .before .before .before .before) .book))
+posed : (c : tie.After-of-book) → c .of-book .result ≡ maskedFrom (maskedBook (said (c .before .before .before .before) .book))
 posed c = c .of-book .ensures ∙ ap maskedFrom (said (c .before .before .before .before) .keeps)
 
 priced : (c : tie.After-read-costs) → c .read-costs .result ≡ table (said (c .before .before) .book .costs)
@@ -38,8 +38,8 @@ read-requires : tie.Need-read-requires
 read-requires c κs = search needs
 
 -- src/lib.rt:259:34
-enum-known-outcome : tie.Need-enum-known-outcome
-enum-known-outcome c = search needs
+enum-known-verdict : tie.Need-enum-known-verdict
+enum-known-verdict c = search needs
 
 -- src/lib.rt:261:16
 enum-told : tie.Need-enum-told
@@ -65,7 +65,7 @@ log-of-requires c κs =
 
 -- src/lib.rt:253:1
 returns-2 : tie.Need-returns-2
-returns-2 c = refused-of (book-refused _ (c .before .before .before .read .ensures) (c .before .outcome .given .1))
+returns-2 c = refused-of (book-refused _ (c .before .before .before .read .ensures) (c .before .verdict .given .1))
 
 -- src/lib.rt:253:1
 same-length : tie.Need-same-length
@@ -83,7 +83,7 @@ log-spec =
     tie.close
     (tie.spec
     read-requires
-    enum-known-outcome
+    enum-known-verdict
     enum-told
     returns
     read-costs-requires

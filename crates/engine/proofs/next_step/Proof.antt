@@ -2,7 +2,7 @@ use mathlib.Core.Path.{_≡_, refl, ap, _∙_}
 use native.Mathlib.Omega.{arith}
 use denote.Ref.{now}
 use Rattle.book.specs.Format.{readBook}
-use Rattle.book.specs.Answer.{kept, table, tableAnswer}
+use Rattle.book.specs.Answer.{maskedBook, table, tableAnswer}
 use Rattle.book.proofs.PartLaws.{BookSaid, book-says, book-refused}
 use Rattle.book.proofs.WellFormed.{WellFormed, well-formed}
 use Rattle.problem.specs.Masked.{maskedFrom}
@@ -27,7 +27,7 @@ good : (c : tie.After-enum-told) → WellFormed (said c .book)
 good c = well-formed _ (said c .said)
 
 -- the problem that is made of it, and its costs
-posed : (c : tie.After-of-book) → c .of-book .result ≡ maskedFrom (kept (said (c .before .before .before) .book))
+posed : (c : tie.After-of-book) → c .of-book .result ≡ maskedFrom (maskedBook (said (c .before .before .before) .book))
 posed c = c .of-book .ensures ∙ ap maskedFrom (said (c .before .before .before) .keeps)
 
 priced : (c : tie.After-read-costs) → c .read-costs .result ≡ table (said (c .before) .book .costs)
@@ -39,8 +39,8 @@ read-requires : tie.Need-read-requires
 read-requires c κs = search needs
 
 -- src/lib.rt:153:34
-enum-known-outcome : tie.Need-enum-known-outcome
-enum-known-outcome c = search needs
+enum-known-verdict : tie.Need-enum-known-verdict
+enum-known-verdict c = search needs
 
 -- src/lib.rt:155:17
 enum-told : tie.Need-enum-told
@@ -62,7 +62,7 @@ step-of-requires c κs = rw (posed c, priced (c .before .before)) (steppable (go
 -- src/lib.rt:147:1
 returns : tie.Need-returns
 unfolding stepAnswer withModel
-returns c = step-call (rw (book-refused _ (c .before .before .before .read .ensures) (c .before .outcome .given .1)) refl)
+returns c = step-call (rw (book-refused _ (c .before .before .before .read .ensures) (c .before .verdict .given .1)) refl)
 
 -- src/lib.rt:147:1
 returns-2 : tie.Need-returns-2
@@ -74,7 +74,7 @@ next-step-spec =
     tie.close
     (tie.spec
     read-requires
-    enum-known-outcome
+    enum-known-verdict
     enum-told
     read-costs-requires
     of-book-requires

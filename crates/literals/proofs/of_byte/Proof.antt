@@ -21,24 +21,19 @@ minus c = less-256 _ (c .if1 .left) (c .before .fits .b .fits)
 cast-result : tie.Need-cast-result
 cast-result c = search needs
 
--- src/lib.rt:11:10
 cast-result-2 : tie.Need-cast-result-2
 cast-result-2 c = search needs
 
--- src/lib.rt:11:10
 sub-result : tie.Need-sub-result
 sub-result c = rw (minus c) (record { sfits = omega arith })
 
--- src/lib.rt:11:9
 cast-result-3 : tie.Need-cast-result-3
 cast-result-3 c = rw (minus c) (rw (toZ-ofZ {w = w16} {z = negsuc (255 - c .before .args .b)} (record { sfits = omega arith })) (record { sfits = omega arith }))
 
--- src/lib.rt:5:1
 returns : tie.Need-returns
 unfolding ofByte
 returns c = rw (lt-ltb _ _ (c .if1 .taken))
 
--- src/lib.rt:5:1
 returns-2 : tie.Need-returns-2
 unfolding ofByte
 returns-2 c =

@@ -4,7 +4,7 @@ use native.Mathlib.Omega.{arith}
 use borrow.Author.Needs.{needs}
 use lib.ListN.{length, set, length-set}
 use denote.Ref.{now}
-use Rattle.sets.specs.Sets.{count, union, members}
+use Rattle.sets.specs.Sets.{count, union, members, width}
 use Rattle.sets.specs.Laws.Bits.{union-lt}
 use Rattle.log.specs.Contracts.{memberByte}
 use Rattle.log.proofs.ListLaws.{Listing, listing-none, listing-room, listing-more, listing-less, listing-all, listed, list-length, members-count}
@@ -29,7 +29,7 @@ abbrev μ-loop : tie.MeasureT-loop
 whole : (c : tie.After-count Inv-loop μ-loop) → c .before .union .result ≡ union (c .before .before .before .args .set .yes) (c .before .before .before .args .set .no)
 whole c = c .before .union .ensures
 
-below : (c : tie.After-count Inv-loop μ-loop) → union (c .before .before .before .args .set .yes) (c .before .before .before .args .set .no) < 2 ^ 64
+below : (c : tie.After-count Inv-loop μ-loop) → union (c .before .before .before .args .set .yes) (c .before .before .before .args .set .no) < 2 ^ width
 below c = rw (whole c) at (c .before .union .ok)
 
 room : (c : tie.After-count Inv-loop μ-loop)

@@ -12,7 +12,7 @@ use Rattle.sets.specs.Laws.Bits.{bit-le, bit-insert-same, bit-insert-other, uni
 use Rattle.sets.specs.Laws.Subset.{apart-symm}
 use Rattle.sets.specs.Laws.Count.{ones-union, ones-insert}
 use Rattle.sat.specs.Meaning.{Model}
-use Rattle.sat.specs.Contracts.{Posed, digit, Sets, Assigned, unset}
+use Rattle.sat.specs.Contracts.{Posed, digit, SetTo, Assigned, unset}
 
 -- ---- `assign`
 
@@ -58,19 +58,19 @@ insert-apart m v f a =
 -- ---- the models of the partial filling with v set are the models of the old one that give v the value
 
 module _ (n : ℕ) (ys ns : List ℕ) (on off v f : ℕ) where
-  model-sets : (value : Bool) (a b : ℕ) → Sets on off v value a b → Model n ys ns on off f → bit f v ≡ digit value → Model n ys ns a b f
-  model-sets true a b s m e =
+  model-set-to : (value : Bool) (a b : ℕ) → SetTo on off v value a b → Model n ys ns on off f → bit f v ≡ digit value → Model n ys ns a b f
+  model-set-to true a b s m e =
       rw (s .0, s .1) (record { below = m .below; keeps = within-insert on v f (m .keeps) e; avoids = m .avoids; obeyed = m .obeyed })
-  model-sets false a b s m e =
+  model-set-to false a b s m e =
       rw (s .0, s .1) (record { below = m .below; keeps = m .keeps; avoids = apart-insert off v f (m .avoids) e; obeyed = m .obeyed })
 
-  sets-model : (value : Bool) (a b : ℕ) → Sets on off v value a b → Model n ys ns a b f → Model n ys ns on off f × (bit f v ≡ digit value)
-  sets-model true a b s m =
+  set-to-model : (value : Bool) (a b : ℕ) → SetTo on off v value a b → Model n ys ns a b f → Model n ys ns on off f × (bit f v ≡ digit value)
+  set-to-model true a b s m =
       let w : Within (insert on v) f = rw (s .0) at (m .keeps) in (
         record { below = m .below; keeps = insert-within on v f w; avoids = rw (s .1) at (m .avoids); obeyed = m .obeyed },
         omega (arith, w .keeps v, bit-insert-same on v, bit-le f v),
       )
-  sets-model false a b s m =
+  set-to-model false a b s m =
       let w : Apart (insert off v) f = rw (s .1) at (m .avoids) in (
         record { below = m .below; keeps = rw (s .0) at (m .keeps); avoids = insert-apart off v f w; obeyed = m .obeyed },
         omega (arith, w .avoids v, bit-insert-same off v),
@@ -78,17 +78,17 @@ module _ (n : ℕ) (ys ns : List ℕ) (on off v f : ℕ) where
 
 pub model-assigned : {n : ℕ} {ys ns : List ℕ} {on off v a b f : ℕ} {value : Bool} → Assigned on off v value a b → Model n ys ns on off f
     → bit f v ≡ digit value → Model n ys ns a b f
-model-assigned {n} {ys} {ns} {on} {off} {v} {a} {b} {f} {value} s m e = model-sets n ys ns on off v f value a b (s .said) m e
+model-assigned {n} {ys} {ns} {on} {off} {v} {a} {b} {f} {value} s m e = model-set-to n ys ns on off v f value a b (s .said) m e
 
 pub assigned-model : {n : ℕ} {ys ns : List ℕ} {on off v a b f : ℕ} {value : Bool} → Assigned on off v value a b → Model n ys ns a b f
     → Model n ys ns on off f × (bit f v ≡ digit value)
-assigned-model {n} {ys} {ns} {on} {off} {v} {a} {b} {f} {value} s m = sets-model n ys ns on off v f value a b (s .said) m
+assigned-model {n} {ys} {ns} {on} {off} {v} {a} {b} {f} {value} s m = set-to-model n ys ns on off v f value a b (s .said) m
 
 -- ---- it is a partial filling with one variable less to set
 
 module _ (n : ℕ) (ys ns : List ℕ) (on off v : ℕ) (p : Posed n ys ns on off) (h : v < n) (x : bit on v ≡ 0) (z : bit off v ≡ 0) where
-  sets-posed : (value : Bool) (a b : ℕ) → Sets on off v value a b → Posed n ys ns a b
-  sets-posed true a b s =
+  set-to-posed : (value : Bool) (a b : ℕ) → SetTo on off v value a b → Posed n ys ns a b
+  set-to-posed true a b s =
       rw (s .0, s .1) (record {
         small = p .small;
         paired = p .paired;
@@ -98,7 +98,7 @@ module _ (n : ℕ) (ys ns : List ℕ) (on off v : ℕ) (p : Posed n ys ns on off
         off-below = p .off-below;
         apart = apart-insert on v off (p .apart) z;
       })
-  sets-posed false a b s =
+  set-to-posed false a b s =
       rw (s .0, s .1) (record {
         small = p .small;
         paired = p .paired;
@@ -109,17 +109,17 @@ module _ (n : ℕ) (ys ns : List ℕ) (on off v : ℕ) (p : Posed n ys ns on off
         apart = apart-symm _ _ (apart-insert off v on (apart-symm on off (p .apart)) x);
       })
 
-  sets-count : (value : Bool) (a b : ℕ) → Sets on off v value a b → count a + count b ≡ suc (count on + count off)
-  sets-count true a b s = rw (s .0, s .1) (omega (arith, ones-insert on v x))
-  sets-count false a b s = rw (s .0, s .1) (omega (arith, ones-insert off v z))
+  set-to-count : (value : Bool) (a b : ℕ) → SetTo on off v value a b → count a + count b ≡ suc (count on + count off)
+  set-to-count true a b s = rw (s .0, s .1) (omega (arith, ones-insert on v x))
+  set-to-count false a b s = rw (s .0, s .1) (omega (arith, ones-insert off v z))
 
 count-le : (n : ℕ) (ys ns : List ℕ) (on off : ℕ) → Posed n ys ns on off → count on + count off ≤ n
 count-le n ys ns on off p = omega (arith, ones-union on off (p .apart), ones-le n (union on off) (union-lt n on off (p .on-below) (p .off-below)))
 
 module _ {n : ℕ} {ys ns : List ℕ} {on off v a b : ℕ} {value : Bool} where
   pub posed-assigned : Posed n ys ns on off → v < n → bit on v ≡ 0 → bit off v ≡ 0 → Assigned on off v value a b → Posed n ys ns a b
-  posed-assigned p h x z s = sets-posed n ys ns on off v p h x z value a b (s .said)
+  posed-assigned p h x z s = set-to-posed n ys ns on off v p h x z value a b (s .said)
 
   pub unset-less : Posed n ys ns on off → v < n → bit on v ≡ 0 → bit off v ≡ 0 → Assigned on off v value a b → suc (unset n a b) ≡ unset n on off
   unset-less p h x z s =
-      omega (arith, count-le n ys ns a b (posed-assigned p h x z s), sets-count n ys ns on off v p h x z value a b (s .said))
+      omega (arith, count-le n ys ns a b (posed-assigned p h x z s), set-to-count n ys ns on off v p h x z value a b (s .said))

@@ -38,17 +38,17 @@ module _ (y n on off : ℕ) where
   -- a literal that can still be true, or is
   open-yes : (v : ℕ) → bit y v ≡ 1 → bit off v ≡ 0 → Looked y n on off Quiet
   open-yes v a b =
-      record { said = record { stands = λ k h l f. obeys-yes on y n v a (omega (arith, f .set v (member-lt k y v a h))) } }
+      record { said = record { when-full = λ k h l f. obeys-yes on y n v a (omega (arith, f .set v (member-lt k y v a h))) } }
 
   open-no : (v : ℕ) → bit n v ≡ 1 → bit on v ≡ 0 → Looked y n on off Quiet
-  open-no v a b = record { said = record { stands = λ k h l f. obeys-no on y n v a b } }
+  open-no v a b = record { said = record { when-full = λ k h l f. obeys-no on y n v a b } }
 
   true-yes : (v : ℕ) → bit on v ≡ 1 → bit y v ≡ 1 → Looked y n on off Quiet
-  true-yes v a b = record { said = record { stands = λ k h l f. obeys-yes on y n v b a } }
+  true-yes v a b = record { said = record { when-full = λ k h l f. obeys-yes on y n v b a } }
 
   true-no : (v : ℕ) → bit off v ≡ 1 → bit n v ≡ 1 → Looked y n on off Quiet
   true-no v a b =
-      record { said = record { stands = λ k h l f. obeys-no on y n v b (omega (arith, f .set v (member-lt k n v b l))) } }
+      record { said = record { when-full = λ k h l f. obeys-no on y n v b (omega (arith, f .set v (member-lt k n v b l))) } }
 
   -- where no yes can still come true, a filling that extends the partial one obeys the rule by a no that can, and the other way round
   by-no : diff y off ≡ 0 → (f : ℕ) → Within on f → Apart off f → obeysMasks f y n ≡ true → (v : ℕ) × (bit (diff n on) v ≡ 1) × (bit f v ≡ 0)
@@ -92,7 +92,7 @@ module _ (y n on off : ℕ) where
 -- the literals that can still be true say no
 no-tells : (y n on off : ℕ) (r : Look) → union (inter on y) (inter off n) ≡ 0 → diff y off ≡ 0 → TellsOnly (diff n on) false r → Looked y n on off r
 no-tells y n on off Conflict e z s =
-    record { said = record { fails = λ f w a h. let t = by-no y n on off z f w a h in omega (arith, t .1, bit-none (diff n on) (t .0) s) } }
+    record { said = record { never = λ f w a h. let t = by-no y n on off z f w a h in omega (arith, t .1, bit-none (diff n on) (t .0) s) } }
 no-tells y n on off (Forced v value) e z s =
     let d : (bit n v ≡ 1) × (bit on v ≡ 0) = omega (arith, bit-only (diff n on) v (s .1), bit-diff n on v, bit-le n v) in
     record {
@@ -114,7 +114,7 @@ no-tells y n on off Quiet e z s =
 -- they say yes
 yes-tells : (y n on off : ℕ) (r : Look) → union (inter on y) (inter off n) ≡ 0 → diff n on ≡ 0 → TellsOnly (diff y off) true r → Looked y n on off r
 yes-tells y n on off Conflict e z s =
-    record { said = record { fails = λ f w a h. let t = by-yes y n on off z f w a h in omega (arith, t .1, bit-none (diff y off) (t .0) s) } }
+    record { said = record { never = λ f w a h. let t = by-yes y n on off z f w a h in omega (arith, t .1, bit-none (diff y off) (t .0) s) } }
 yes-tells y n on off (Forced v value) e z s =
     let d : (bit y v ≡ 1) × (bit off v ≡ 0) = omega (arith, bit-only (diff y off) v (s .1), bit-diff y off v, bit-le y v) in
     record {

@@ -5,7 +5,7 @@ use native.Mathlib.Nat.{pow-suc, zero-mul, one-mul}
 use native.Mathlib.Omega.{arith}
 use mathlib.Core.List.{List}
 use Rattle.sets.specs.Sets.{bit}
-use Rattle.sat.specs.Meaning.{rank, First}
+use Rattle.sat.specs.Meaning.{rank, FirstModel}
 
 -- a digit before a number of fewer digits
 digit-lt : (d w r : ℕ) → d ≤ 1 → r < w → d * w + r < w * 2
@@ -54,6 +54,6 @@ rank-first (suc n) p f g (suc v) h same a b =
     rw s (omega (arith, rank-first n (p / 2) (f / 2) (g / 2) v (omega arith) (λ u l. same (suc u) (suc-le-suc l)) a b))
 
 -- there is one first model
-pub first-unique : {n : ℕ} {ys ns : List ℕ} {on off prefer m k : ℕ} → First n ys ns on off prefer m → First n ys ns on off prefer k → m ≡ k
+pub first-unique : {n : ℕ} {ys ns : List ℕ} {on off prefer m k : ℕ} → FirstModel n ys ns on off prefer m → FirstModel n ys ns on off prefer k → m ≡ k
 first-unique {n} {ys} {ns} {on} {off} {prefer} {m} {k} a b =
     rank-injective n prefer m k (a .model .below) (b .model .below) (omega (arith, a .first k (b .model), b .first m (a .model)))

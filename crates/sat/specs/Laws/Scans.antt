@@ -7,24 +7,25 @@ use Prim.Native.Nat.{ℕ, _+_, _≤_, _<_}
 use native.Mathlib.Decide.{ℕ-discrete}
 use native.Mathlib.Omega.{arith}
 use lib.ListN.{length, getD}
-use Rattle.sat.specs.Contracts.{Posed, Assigned, Forces, Looked, unset, Moves, Passing, Scanned}
+use Rattle.sets.specs.Sets.{width}
+use Rattle.sat.specs.Contracts.{Posed, Assigned, ForcesVariable, Looked, unset, Moves, Passing, Scanned}
 use Rattle.sat.specs.Laws.Rules.{obeys-at, obeys-each}
 use Rattle.sat.specs.Laws.Assigns.{model-assigned, assigned-model, posed-assigned, unset-less}
 use Rattle.sat.specs.declared.Look.{Look}
 use Rattle.sat.specs.declared.Look.the-variants.{Conflict, Forced, Quiet}
 use Rattle.sat.specs.declared.Partial.{Partial}
-use Rattle.sat.specs.declared.Pass.the-variants.{Clash, Grown, Done}
+use Rattle.sat.specs.declared.Pass.the-variants.{Clash, Extended, Done}
 
 -- before the first rule
 pub scan-start : {ys ns : List ℕ} {on off : ℕ} → Passing false 0 ys ns on off on off
 scan-start =
     record {
-      keeps = record { posed = λ n p. p; kept = λ n f m. m; back = λ n f m. m };
-      moves = (refl, refl, record { passed = λ j h. absurd (omega arith) });
+      keeps = record { posed = λ n p. p; forth = λ n f m. m; back = λ n f m. m };
+      moves = (refl, refl, record { each-quiet = λ j h. absurd (omega arith) });
     }
 
 -- the variable that a look forces
-pub look-small : {y n on off v : ℕ} {value : Bool} {r : Look} → Looked y n on off r → r ≡ Forced v value → v < 64
+pub look-small : {y n on off v : ℕ} {value : Bool} {r : Look} → Looked y n on off r → r ≡ Forced v value → v < width
 look-small {y} {n} {on} {off} l e = subst (Looked y n on off) e l .said .small
 
 module _ {ys ns : List ℕ} {on off a b i : ℕ} {moved : Bool} {r : Look} where
@@ -35,9 +36,9 @@ module _ {ys ns : List ℕ} {on off a b i : ℕ} {moved : Bool} {r : Look} where
       record {
         said = λ n. record {
           none = λ f m.
-              let z = x .keeps .kept n f m in
+              let z = x .keeps .forth n f m in
               let t = subst (Looked (getD ys i 0) (getD ns i 0) a b) e l in
-              t .said .fails f (z .keeps) (z .avoids) (obeys-at f ys ns i (z .obeyed) h (omega arith));
+              t .said .never f (z .keeps) (z .avoids) (obeys-at f ys ns i (z .obeyed) h (omega arith));
         };
       }
 
@@ -50,7 +51,7 @@ module _ {ys ns : List ℕ} {on off a b i : ℕ} {moved : Bool} {r : Look} where
 
       go : (m : Bool) → Moves m i ys ns on off a b → Moves m (i + 1) ys ns on off a b
       go true z = z
-      go false z = (z .0, z .1, record { passed = λ j h. by-cases (ℕ-discrete j i) (λ q. rw q (here z)) (λ q. z .2 .passed j (omega arith)) })
+      go false z = (z .0, z .1, record { each-quiet = λ j h. by-cases (ℕ-discrete j i) (λ q. rw q (here z)) (λ q. z .2 .each-quiet j (omega arith)) })
 
   -- a rule that forces a variable
   pub scan-forced : {v c d : ℕ} {value : Bool} → length ys ≡ length ns → i < length ys → Passing moved i ys ns on off a b
@@ -59,8 +60,8 @@ module _ {ys ns : List ℕ} {on off a b i : ℕ} {moved : Bool} {r : Look} where
       record {
         keeps = record {
           posed = λ n q. posed-assigned (x .keeps .posed n q) (below n q) (t .not-on) (t .not-off) s;
-          kept = λ n f m.
-              let z = x .keeps .kept n f m in
+          forth = λ n f m.
+              let z = x .keeps .forth n f m in
               model-assigned s z (t .forces f (z .keeps) (z .avoids) (obeys-at f ys ns i (z .obeyed) h (omega arith)));
           back = λ n f m. x .keeps .back n f (assigned-model s m .0);
         };
@@ -70,7 +71,7 @@ module _ {ys ns : List ℕ} {on off a b i : ℕ} {moved : Bool} {r : Look} where
         };
       }
     where
-      t : Forces (getD ys i 0) (getD ns i 0) a b v value
+      t : ForcesVariable (getD ys i 0) (getD ns i 0) a b v value
       t = subst (Looked (getD ys i 0) (getD ns i 0) a b) e l .said
 
       below : (n : ℕ) → Posed n ys ns on off → v < n
@@ -82,8 +83,8 @@ module _ {ys ns : List ℕ} {on off a b i : ℕ} {moved : Bool} {r : Look} where
 
 -- after the last rule
 module _ {ys ns : List ℕ} {on off i : ℕ} where
-  pub scan-grown : {q : Partial} {moved : Bool} → moved ≡ true → Passing moved i ys ns on off (q .on) (q .off) → Scanned ys ns on off (Grown q)
-  scan-grown {q} {moved} e x =
+  pub scan-extended : {q : Partial} {moved : Bool} → moved ≡ true → Passing moved i ys ns on off (q .on) (q .off) → Scanned ys ns on off (Extended q)
+  scan-extended {q} {moved} e x =
       record { said = (x .keeps, subst (λ (m : Bool). Moves m i ys ns on off (q .on) (q .off)) e (x .moves)) }
 
   pub scan-done : {a b : ℕ} {moved : Bool} → moved ≡ false → length ys ≡ length ns → length ys ≤ i → Passing moved i ys ns on off a b
@@ -94,8 +95,8 @@ module _ {ys ns : List ℕ} {on off i : ℕ} where
         said = record {
           still = λ n q f.
               obeys-each on ys ns
-              (λ j l. z .2 .passed j (omega arith) .said .stands n (q .yes-masks .below j l) (q .no-masks .below j (omega arith)) f);
+              (λ j l. z .2 .each-quiet j (omega arith) .said .when-full n (q .yes-masks .below j l) (q .no-masks .below j (omega arith)) f);
         };
       }
 
-pub ruleset scan-laws = (scan-start, look-small, scan-conflict, scan-quiet, scan-forced, scan-grown, scan-done)
+pub ruleset scan-laws = (scan-start, look-small, scan-conflict, scan-quiet, scan-forced, scan-extended, scan-done)

@@ -6,21 +6,21 @@ use native.Mathlib.Nat.{pow-suc}
 use native.Mathlib.Decide.{decLe}
 use native.Mathlib.Omega.{arith}
 use lib.Count.{trailingZeros, under}
-use Rattle.sets.specs.Sets.{bit, Least}
+use Rattle.sets.specs.Sets.{bit, LeastMember}
 use Rattle.sets.specs.Laws.Bits.{lt-pow, member-lt}
 
-pub least-le : (m r v : ℕ) → Least m r → bit m v ≡ 1 → r ≤ v
+pub least-le : (m r v : ℕ) → LeastMember m r → bit m v ≡ 1 → r ≤ v
 least-le m r v l e = by-cases (decLe r v) (λ h. h) (λ h. omega (arith, l .first v (omega arith)))
 
-pub least-unique : (m r s : ℕ) → Least m r → Least m s → r ≡ s
-least-unique m r s a b = omega (arith, least-le m r s a (b .member), least-le m s r b (a .member))
+pub least-member-unique : (m r s : ℕ) → LeastMember m r → LeastMember m s → r ≡ s
+least-member-unique m r s a b = omega (arith, least-le m r s a (b .member), least-le m s r b (a .member))
 
 -- the least element by the lowest digit: it is 0, or one more than that of the rest
-pub least-odd : (m : ℕ) → m % 2 ≡ 1 → Least m 0
+pub least-odd : (m : ℕ) → m % 2 ≡ 1 → LeastMember m 0
 unfolding bit
 least-odd m e = record { member = e; first = λ u h. omega arith }
 
-pub least-even : (m r : ℕ) → m % 2 ≡ 0 → Least (m / 2) r → Least m (suc r)
+pub least-even : (m r : ℕ) → m % 2 ≡ 0 → LeastMember (m / 2) r → LeastMember m (suc r)
 unfolding bit
 least-even m r e l = record { member = l .member; first = below }
   where
@@ -28,17 +28,17 @@ least-even m r e l = record { member = l .member; first = below }
     below zero h = e
     below (suc u) h = l .first u (omega arith)
 
-pub least-half : (m r : ℕ) → Least m (suc r) → Least (m / 2) r
+pub least-half : (m r : ℕ) → LeastMember m (suc r) → LeastMember (m / 2) r
 unfolding bit
 least-half m r l = record { member = l .member; first = λ u h. l .first (suc u) (omega arith) }
 
 -- `trailing_zeros` of a mask of n bits
-pub trailing-least : (n m : ℕ) → 0 < m → m < 2 ^ n → Least m (trailingZeros n m)
+pub trailing-least : (n m : ℕ) → 0 < m → m < 2 ^ n → LeastMember m (trailingZeros n m)
 unfolding trailingZeros
 trailing-least zero m p h = absurd (omega arith)
 trailing-least (suc n) m p h = go (m % 2) refl (λ q. trailing-least n (m / 2) q (omega (arith, pow-suc 2 n)))
   where
-    go : (d : ℕ) → m % 2 ≡ d → (0 < m / 2 → Least (m / 2) (trailingZeros n (m / 2))) → Least m (under d (trailingZeros n (m / 2)))
+    go : (d : ℕ) → m % 2 ≡ d → (0 < m / 2 → LeastMember (m / 2) (trailingZeros n (m / 2))) → LeastMember m (under d (trailingZeros n (m / 2)))
     go zero e rest = least-even m (trailingZeros n (m / 2)) e (rest (omega arith))
     go (suc d) e rest = least-odd m (omega arith)
 

@@ -7,7 +7,7 @@ use native.Mathlib.Nat.{pow-suc}
 use native.Mathlib.Omega.{arith}
 use lib.ListN.{length}
 use lib.Count.{ones, ones-step}
-use Rattle.sets.specs.Sets.{bit, remove, keep, membersFrom, membersBelow, members, RisingFrom, Rising, Least}
+use Rattle.sets.specs.Sets.{bit, remove, keep, membersFrom, membersBelow, members, RisingFrom, Rising, LeastMember}
 use Rattle.sets.specs.Laws.Bits.{remove-zero-half, remove-zero-even, remove-suc-half, remove-suc-odd, lt-pow, member-lt}
 use Rattle.sets.specs.Laws.Least.{least-half}
 use Rattle.sets.specs.Laws.Count.{ones-zero}
@@ -66,10 +66,10 @@ members-below n m h = from-enough n m 0 m h (lt-pow m)
 -- ---- which
 
 -- v is an element of m among its n lowest digits, where the lowest stands for s
-abbrev Found : ℕ → ℕ → ℕ → ℕ → Type 0
-Found n s m v = (u : ℕ) × (v ≡ s + u) × (u < n) × (bit m u ≡ 1)
+abbrev MemberFrom : ℕ → ℕ → ℕ → ℕ → Type 0
+MemberFrom n s m v = (u : ℕ) × (v ≡ s + u) × (u < n) × (bit m u ≡ 1)
 
-mem-from : (n s m v : ℕ) → List·Memᴰ v (membersFrom n s m) → Found n s m v
+mem-from : (n s m v : ℕ) → List·Memᴰ v (membersFrom n s m) → MemberFrom n s m v
 unfolding membersFrom bit
 mem-from zero s m v h = absurd (List·Memᴰ·not-nil h)
 mem-from (suc n) s m v h = go (m % 2) refl (subst (List·Memᴰ v) (from-step n s m) h)
@@ -78,14 +78,14 @@ mem-from (suc n) s m v h = go (m % 2) refl (subst (List·Memᴰ v) (from-step n 
     rest : List ℕ
     rest = membersFrom n (suc s) (m / 2)
 
-    above : Found n (suc s) (m / 2) v → Found (suc n) s m v
+    above : MemberFrom n (suc s) (m / 2) v → MemberFrom (suc n) s m v
     above t = (suc (t .0), omega (arith, t .1), omega (arith, t .2), t .3)
 
-    split : m % 2 ≡ 1 → (v ≡ s) ⊎ List·Memᴰ v rest → (List·Memᴰ v rest → Found n (suc s) (m / 2) v) → Found (suc n) s m v
+    split : m % 2 ≡ 1 → (v ≡ s) ⊎ List·Memᴰ v rest → (List·Memᴰ v rest → MemberFrom n (suc s) (m / 2) v) → MemberFrom (suc n) s m v
     split e (inl p) f = (0, omega arith, omega arith, e)
     split e (inr q) f = above (f q)
 
-    go : (d : ℕ) → m % 2 ≡ d → List·Memᴰ v (keep d s rest) → (List·Memᴰ v rest → Found n (suc s) (m / 2) v) → Found (suc n) s m v
+    go : (d : ℕ) → m % 2 ≡ d → List·Memᴰ v (keep d s rest) → (List·Memᴰ v rest → MemberFrom n (suc s) (m / 2) v) → MemberFrom (suc n) s m v
     go zero e q f = above (f q)
     go (suc d) e q f = split (omega arith) (List·Memᴰ·cases-cons q) f
 
@@ -134,7 +134,7 @@ members-rising n m = rising-from n 0 m
 
 -- ---- the least first, and then those of the rest
 
-next-from : (n s m r : ℕ) → m < 2 ^ n → Least m r → membersFrom n s m ≡ (s + r) ∷ membersFrom n s (remove m r)
+next-from : (n s m r : ℕ) → m < 2 ^ n → LeastMember m r → membersFrom n s m ≡ (s + r) ∷ membersFrom n s (remove m r)
 unfolding bit
 next-from zero s m r h l = absurd (omega (arith, member-lt 0 m r (l .member) h))
 next-from (suc n) s m zero h l =
@@ -148,7 +148,7 @@ next-from (suc n) s m (suc r) h l =
     ∙ ap₂ (λ (x : ℕ) (y : ℕ). x ∷ membersFrom n (suc s) y) (omega arith) (sym (remove-suc-half m r))
     ∙ ap (λ (x : List ℕ). (s + suc r) ∷ x) (sym (from-even n s (remove m (suc r)) (remove-suc-odd m r ∙ even)))
 
-pub members-least : (n m r : ℕ) → m < 2 ^ n → Least m r → membersBelow n m ≡ r ∷ membersBelow n (remove m r)
+pub members-least : (n m r : ℕ) → m < 2 ^ n → LeastMember m r → membersBelow n m ≡ r ∷ membersBelow n (remove m r)
 unfolding membersBelow
 members-least n m r h l =
     next-from n 0 m r h l ∙ ap (λ (x : ℕ). x ∷ membersFrom n 0 (remove m r)) (omega arith)

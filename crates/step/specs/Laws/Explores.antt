@@ -9,15 +9,15 @@ use native.Mathlib.Omega.{arith}
 use lib.Pow.{pow-mono}
 use lib.Bits.{and-le-r}
 use lib.ListN.{length, getD}
-use Rattle.sets.specs.Sets.{bit, full, union, inter, diff, insert, remove, disjoint, Within, Apart, Lowest}
+use Rattle.sets.specs.Sets.{bit, full, union, inter, diff, insert, remove, disjoint, Within, Apart, Lowest, width}
 use Rattle.sets.specs.Laws.Bits.{bit-le, bit-high, bit-full, bit-union, bit-inter, bit-diff, union-lt, member-lt}
 use Rattle.sets.specs.Laws.Subset.{within-trans, within-le, disjoint-apart, disjoint-false}
 use Rattle.sat.specs.Meaning.{Model}
 use Rattle.sat.specs.Contracts.{Posed, digit, Assigned, Searched}
 use Rattle.sat.specs.Laws.Assigns.{model-assigned, assigned-model, posed-assigned}
 use Rattle.sat.specs.Laws.Searches.{searched-first, searched-none}
-use Rattle.sat.specs.declared.Outcome.{Outcome}
-use Rattle.sat.specs.declared.Outcome.the-variants.{Model as LeastFound, Nothing}
+use Rattle.sat.specs.declared.SearchResult.{SearchResult}
+use Rattle.sat.specs.declared.SearchResult.the-variants.{Found as LeastFound, Nothing}
 use Rattle.book.specs.Limits.{maxChoices}
 use Rattle.step.specs.Cheapest.{Least, InInterval, Monotone, Hit, insert-within, within-remove, remove-within, insert-more, remove-less, prune, hit, no-member, branch-on, hit-rest}
 use Rattle.step.specs.Contracts.{costRoom, total, keyOf, Small, aimOn, aimOff, Against, deniedBy, Refutes, keyAt, Sought, Exploring, Branching, Explored}
@@ -146,7 +146,7 @@ module _ {n : ℕ} {ys ns ws : List ℕ} {aim : Aim} {part : Part} where
   here-key : {here : ℕ} → Exploring n ys ns ws aim part → here ≡ keyOf (part .cost) (aim .goal) (part .chosen) → here ≡ keyAt n ws aim (part .chosen)
   here-key x e = omega (arith, x .priced)
 
-  pub explore-goal : Exploring n ys ns ws aim part → aim .goal < 64
+  pub explore-goal : Exploring n ys ns ws aim part → aim .goal < width
   explore-goal x = omega (arith, x .sought .goal-row)
 
   -- ---- `explore`
@@ -158,13 +158,13 @@ module _ {n : ℕ} {ys ns ws : List ℕ} {aim : Aim} {part : Part} where
   pub explore-posed : {on off : ℕ} → Exploring n ys ns ws aim part → Against aim (part .chosen) on off → Posed n ys ns on off
   explore-posed x a = rw (a .on-said, a .off-said) (aim-posed aim (part .chosen) (x .sought .posed) (x .sought .goal-below) (x .sought .not-on) (x .sought .not-off))
 
-  pub explore-hit : {best here on off prefer : ℕ} {r : Outcome} → Exploring n ys ns ws aim part → here ≡ keyOf (part .cost) (aim .goal) (part .chosen)
+  pub explore-hit : {best here on off prefer : ℕ} {r : SearchResult} → Exploring n ys ns ws aim part → here ≡ keyOf (part .cost) (aim .goal) (part .chosen)
       → here < best → Against aim (part .chosen) on off → Searched n ys ns on off prefer r → r ≡ Nothing → Explored n ys ns ws aim part best here
   explore-hit {best} {here} x e h a s d =
       let none : Refutes n ys ns aim (part .chosen) = rw (a .on-said, a .off-said) at (searched-none s d) in
       rw (here-key {here = here} x e) (record { cheapest = hit (key-rises n ws aim) (x .nested) none (omega (arith, here-key {here = here} x e)) })
 
-  pub explore-branching : {on off prefer m w : ℕ} {r : Outcome} → Exploring n ys ns ws aim part → Against aim (part .chosen) on off
+  pub explore-branching : {on off prefer m w : ℕ} {r : SearchResult} → Exploring n ys ns ws aim part → Against aim (part .chosen) on off
       → Searched n ys ns on off prefer r → r ≡ LeastFound m → w ≡ deniedBy (aim .on) (aim .off) m → Branching n ys ns ws aim part w
   explore-branching {m = m} x a s d e =
       record { exploring = x; hits = rw e (witness n ys ns aim (part .chosen) (part .limit) m (rw (a .on-said, a .off-said) at (searched-first s d .model))) }
@@ -177,7 +177,7 @@ module _ {n : ℕ} {ys ns ws : List ℕ} {aim : Aim} {part : Part} where
 
 -- Variable v is one that the part may still choose.
 pub record RowMember (n : ℕ) (ws : List ℕ) (part : Part) (v : ℕ) : Type 0 where
-  pub small : v < 64
+  pub small : v < width
   pub below : v < n
   pub weighed : v < length ws
   pub limited : bit (part .limit) v ≡ 1

@@ -5,7 +5,6 @@ use Rattle.book.proofs.Book.empty.Tie as tie
 use Rattle.book.proofs.Book.empty.Reads as reads
 use Rattle.book.proofs.Book.empty.Lts as lts
 
--- src/lib.rt:38:5
 returns : tie.Need-returns
 unfolding padded
 returns c = refl

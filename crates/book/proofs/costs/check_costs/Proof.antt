@@ -1,4 +1,4 @@
-use Rattle.book.specs.Answer.{passedAnswer}
+use Rattle.book.specs.Answer.{placeAnswer}
 use mathlib.Core.Path.{refl}
 use mathlib.Core.List.{List, []}
 use Prim.Native.Nat.{_-_}
@@ -19,58 +19,45 @@ Inv-loop s choices from place₀ i₀ place i = (done : List Cost) × Walked cos
 abbrev μ-loop : tie.MeasureT-loop
 μ-loop s choices from place₀ i₀ place i = choices - i
 
--- src/costs.rt:68:5
 loop-holds : tie.Need-loop-holds Inv-loop μ-loop
 loop-holds c = ([], walked-none _ _ _ _ (c .before .pre))
 
--- src/costs.rt:69:25
 sub-read-cost : tie.Need-sub-read-cost Inv-loop μ-loop
 sub-read-cost c = search needs
 
--- src/costs.rt:69:25
 part-read-cost-start : tie.Need-part-read-cost-start Inv-loop μ-loop
 part-read-cost-start c = search needs
 
--- src/costs.rt:69:25
 part-read-cost-end : tie.Need-part-read-cost-end Inv-loop μ-loop
 part-read-cost-end c = search needs
 
--- src/costs.rt:69:38
 add-read-cost : tie.Need-add-read-cost Inv-loop μ-loop
 add-read-cost c = search needs
 
--- src/costs.rt:69:15
 read-cost-requires : tie.Need-read-cost-requires Inv-loop μ-loop
 read-cost-requires c κs = search needs
 
--- src/costs.rt:70:29
 enum-known-number : tie.Need-enum-known-number Inv-loop μ-loop
 enum-known-number c = search needs
 
--- src/costs.rt:70:40
 returns : tie.Need-returns Inv-loop μ-loop
-unfolding passedAnswer
+unfolding placeAnswer
 returns c =
     rw (walked-refused _ _ _ _ _ (c .before .before .before .before .before .before .loop .inv .1) (c .before .before .before .before .before .loop-test .taken)
     (cost-fails _ (rw part-from at (c .before .before .before .read-cost .ensures)) (c .before .number .given .1))) refl
 
--- src/costs.rt:72:17
 enum-told : tie.Need-enum-told Inv-loop μ-loop
 enum-told c = search needs
 
--- src/costs.rt:72:17
 add-place : tie.Need-add-place Inv-loop μ-loop
 add-place c = search needs
 
--- src/costs.rt:73:17
 add-i : tie.Need-add-i Inv-loop μ-loop
 add-i c = search needs
 
--- src/costs.rt:68:5
 loop-less : tie.Need-loop-less Inv-loop μ-loop
 loop-less c = search needs
 
--- src/costs.rt:68:5
 loop-again : tie.Need-loop-again Inv-loop μ-loop
 loop-again c =
     let m = cost-says _ (rw part-from at (c .before .before .read-cost .ensures)) (c .enum-told .given .1) in
@@ -78,9 +65,8 @@ loop-again c =
     let w = walked-more _ _ _ _ _ _ (c .before .before .before .before .before .loop .inv .1) (c .before .before .before .before .loop-test .taken) (m .said) (omega (arith, z .0, z .1)) in
     (_, rw (z .0) at w)
 
--- src/costs.rt:62:1
 returns-2 : tie.Need-returns-2 Inv-loop μ-loop
-unfolding passedAnswer
+unfolding placeAnswer
 returns-2 c = rw (walked-all _ _ _ _ (c .before .loop .inv .1) (c .loop-test .left)) refl
 
 pub check-costs-spec : {M : Type 1} → statement M

@@ -18,71 +18,55 @@ Inv-loop s choices from table₀ place₀ i₀ table place i = Tabled s choices 
 abbrev μ-loop : tie.MeasureT-loop
 μ-loop s choices from table₀ place₀ i₀ table place i = choices - i
 
--- src/costs.rt:92:5
 loop-holds : tie.Need-loop-holds Inv-loop μ-loop
 loop-holds c = tabled-none _ _ _ (c .before .pre .1)
 
--- src/costs.rt:93:25
 sub-read-cost : tie.Need-sub-read-cost Inv-loop μ-loop
 sub-read-cost c = search needs
 
--- src/costs.rt:93:25
 part-read-cost-start : tie.Need-part-read-cost-start Inv-loop μ-loop
 part-read-cost-start c = search needs
 
--- src/costs.rt:93:25
 part-read-cost-end : tie.Need-part-read-cost-end Inv-loop μ-loop
 part-read-cost-end c = search needs
 
--- src/costs.rt:93:38
 add-read-cost : tie.Need-add-read-cost Inv-loop μ-loop
 add-read-cost c = search needs
 
--- src/costs.rt:93:15
 read-cost-requires : tie.Need-read-cost-requires Inv-loop μ-loop
 read-cost-requires c κs = search needs
 
--- src/costs.rt:94:43
 enum-told : tie.Need-enum-told Inv-loop μ-loop
 enum-told c = search needs
 
--- src/costs.rt:94:35
 returns : tie.Need-returns Inv-loop μ-loop
 unfolding tableAnswer table padded
 returns c =
     rw (walked-refused _ _ _ _ _ (c .before .before .before .before .before .loop .inv .walked) (c .before .before .before .before .loop-test .taken)
     (cost-fails _ (rw part-from at (c .before .before .read-cost .ensures)) (c .enum-told .given .1))) refl
 
--- src/costs.rt:95:30
 enum-known-of-yes : tie.Need-enum-known-of-yes Inv-loop μ-loop
 enum-known-of-yes c = search needs
 
--- src/costs.rt:96:17
 mul-table : tie.Need-mul-table Inv-loop μ-loop
 mul-table c = search needs
 
--- src/costs.rt:96:17
 array-set-from-table : tie.Need-array-set-from-table Inv-loop μ-loop
 array-set-from-table c = search needs
 
--- src/costs.rt:97:17
 add-place : tie.Need-add-place Inv-loop μ-loop
 add-place c = search needs
 
--- src/costs.rt:98:17
 add-i : tie.Need-add-i Inv-loop μ-loop
 add-i c = search needs
 
--- src/costs.rt:92:5
 loop-less : tie.Need-loop-less Inv-loop μ-loop
 loop-less c = search needs
 
--- src/costs.rt:92:5
 loop-again : tie.Need-loop-again Inv-loop μ-loop
 loop-again c =
     tabled-more _ _ _ _ _ (c .before .before .before .before .before .before .loop .inv) (c .before .before .before .before .before .loop-test .taken) (c .before .before .before .before .before .before .before .before .pre .0) (cost-says _ (rw part-from at (c .before .before .before .read-cost .ensures)) (c .before .of-yes .given .1))
 
--- src/costs.rt:84:1
 returns-2 : tie.Need-returns-2 Inv-loop μ-loop
 unfolding tableAnswer
 returns-2 c = rw (walked-all _ _ _ _ (c .before .loop .inv .walked) (c .loop-test .left)) (c .before .loop .inv .rows-stored)

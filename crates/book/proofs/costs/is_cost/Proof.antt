@@ -5,12 +5,10 @@ use Rattle.book.proofs.costs.is_cost.Tie as tie
 use Rattle.book.proofs.costs.is_cost.Reads as reads
 use Rattle.book.proofs.costs.is_cost.Lts as lts
 
--- src/costs.rt:26:1
 returns : tie.Need-returns
 unfolding isCost
 returns c = search (le-leb, lt-leb)
 
--- src/costs.rt:26:1
 returns-2 : tie.Need-returns-2
 unfolding isCost
 returns-2 c = search (le-leb, lt-leb)

@@ -7,35 +7,27 @@ use Rattle.book.proofs.costs.pair_at.Tie as tie
 use Rattle.book.proofs.costs.pair_at.Reads as reads
 use Rattle.book.proofs.costs.pair_at.Lts as lts
 
--- src/costs.rt:22:12
-shared-slice-read-result : tie.Need-shared-slice-read-result
-shared-slice-read-result c = search needs
+shared-slice-read-high : tie.Need-shared-slice-read-high
+shared-slice-read-high c = search needs
 
--- src/costs.rt:22:12
-cast-result : tie.Need-cast-result
-cast-result c = omega (arith, c .shared-slice-known .given (c .before .args .i))
+cast-high : tie.Need-cast-high
+cast-high c = omega (arith, c .shared-slice-known .given (c .before .args .i))
 
--- src/costs.rt:22:5
+add-low : tie.Need-add-low
+add-low c = search needs
+
+shared-slice-read-low : tie.Need-shared-slice-read-low
+shared-slice-read-low c = search needs
+
+cast-low : tie.Need-cast-low
+cast-low c = omega (arith, c .shared-slice-known2 .given (c .before .before .args .i + 1))
+
 mul-result : tie.Need-mul-result
-mul-result c = omega (arith, c .shared-slice-known .given (c .before .args .i))
+mul-result c = omega (arith, c .before .shared-slice-known .given (c .before .before .args .i), c .shared-slice-known2 .given (c .before .before .args .i + 1))
 
--- src/costs.rt:22:30
 add-result : tie.Need-add-result
-add-result c = search needs
+add-result c = omega (arith, c .before .shared-slice-known .given (c .before .before .args .i), c .shared-slice-known2 .given (c .before .before .args .i + 1))
 
--- src/costs.rt:22:28
-shared-slice-read-result-2 : tie.Need-shared-slice-read-result-2
-shared-slice-read-result-2 c = search needs
-
--- src/costs.rt:22:28
-cast-result-2 : tie.Need-cast-result-2
-cast-result-2 c = omega (arith, c .before .shared-slice-known .given (c .before .before .args .i), c .shared-slice-known2 .given (c .before .before .args .i + 1))
-
--- src/costs.rt:22:5
-add-result-2 : tie.Need-add-result-2
-add-result-2 c = omega (arith, c .before .shared-slice-known .given (c .before .before .args .i), c .shared-slice-known2 .given (c .before .before .args .i + 1))
-
--- src/costs.rt:18:1
 returns : tie.Need-returns
 unfolding pair
 returns c = search needs
@@ -44,11 +36,11 @@ pub pair-at-spec : {M : Type 1} → statement M
 pair-at-spec =
     tie.close
     (tie.spec
-    shared-slice-read-result
-    cast-result
+    shared-slice-read-high
+    cast-high
+    add-low
+    shared-slice-read-low
+    cast-low
     mul-result
     add-result
-    shared-slice-read-result-2
-    cast-result-2
-    add-result-2
     returns)

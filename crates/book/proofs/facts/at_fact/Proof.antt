@@ -7,16 +7,13 @@ use Rattle.book.proofs.facts.at_fact.Reads as reads
 use Rattle.book.proofs.facts.at_fact.Lts as lts
 use Rattle.book.proofs.mark.has_mark.Reads as has-mark-reads
 
--- src/facts.rt:52:9
 has-mark-requires : tie.Need-has-mark-requires
 has-mark-requires c κs = search needs
 
--- src/facts.rt:48:1
 returns : tie.Need-returns
 unfolding atFact
 returns c = rw (le-leb _ _ (c .before .if1 .taken)) (c .has-mark .ensures)
 
--- src/facts.rt:48:1
 returns-2 : tie.Need-returns-2
 unfolding atFact
 returns-2 c = search lt-leb

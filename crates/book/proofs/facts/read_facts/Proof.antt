@@ -55,114 +55,88 @@ room c =
 loop-holds : tie.Need-loop-holds Inv-loop μ-loop
 loop-holds c = facts-none _ _ _ (c .before .pre .1)
 
--- src/facts.rt:67:19
 sub-at-fact : tie.Need-sub-at-fact Inv-loop μ-loop
 sub-at-fact c = search needs
 
--- src/facts.rt:67:19
 part-at-fact-start : tie.Need-part-at-fact-start Inv-loop μ-loop
 part-at-fact-start c = search needs
 
--- src/facts.rt:67:19
 part-at-fact-end : tie.Need-part-at-fact-end Inv-loop μ-loop
 part-at-fact-end c = search needs
 
--- src/facts.rt:67:11
 at-fact-requires : tie.Need-at-fact-requires Inv-loop μ-loop
 at-fact-requires c κs = search needs
 
--- src/facts.rt:68:25
 sub-read-fact : tie.Need-sub-read-fact Inv-loop μ-loop
 sub-read-fact c = search needs
 
--- src/facts.rt:68:25
 part-read-fact-start : tie.Need-part-read-fact-start Inv-loop μ-loop
 part-read-fact-start c = search needs
 
--- src/facts.rt:68:25
 part-read-fact-end : tie.Need-part-read-fact-end Inv-loop μ-loop
 part-read-fact-end c = search needs
 
--- src/facts.rt:68:15
 read-fact-requires : tie.Need-read-fact-requires Inv-loop μ-loop
 read-fact-requires c κs = search needs
 
--- src/facts.rt:69:29
 enum-known-number : tie.Need-enum-known-number Inv-loop μ-loop
 enum-known-number c = search needs
 
--- src/facts.rt:69:40
 returns : tie.Need-returns Inv-loop μ-loop
 unfolding factsAnswer
 returns c =
     rw (facts-refused _ _ _ (c .before .before .before .before .before .before .before .before .loop .inv) _ (here (c .before .before .before .before .before))
     (fact-fails _ (rw part-from at (c .before .before .before .read-fact .ensures)) (c .before .number .given .1))) refl
 
--- src/facts.rt:70:28
 enum-known-l : tie.Need-enum-known-l Inv-loop μ-loop
 enum-known-l c = search needs
 
--- src/facts.rt:71:17
 with-requires : tie.Need-with-requires Inv-loop μ-loop
 with-requires c κs = rw (byte c) (omega (arith, rose c .above), omega (arith, rose c .upto, c .before .before .before .before .before .before .before .before .before .before .pre .0))
 
--- src/facts.rt:72:24
 variable-requires : tie.Need-variable-requires Inv-loop μ-loop
 variable-requires c κs = search needs
 
--- src/facts.rt:72:24
 cast-last : tie.Need-cast-last Inv-loop μ-loop
 cast-last c = omega (arith, c .variable .ok)
 
--- src/facts.rt:73:17
 add-place : tie.Need-add-place Inv-loop μ-loop
 add-place c = omega (arith, room (c .before .before))
 
--- src/facts.rt:67:5
 loop-less : tie.Need-loop-less Inv-loop μ-loop
 loop-less c = omega (arith, room (c .before .before))
 
--- src/facts.rt:67:5
 loop-again : tie.Need-loop-again Inv-loop μ-loop
 loop-again c =
     rw (c .variable .ensures, byte (c .before .before))
     (facts-more _ _ _ (c .before .before .before .before .before .before .before .before .before .before .loop .inv) _ (here (c .before .before .before .before .before .before .before))
     (said (c .before .before)) (rw (byte (c .before .before)) at (c .before .with .ensures)))
 
--- src/facts.rt:77:24
 sub-opened : tie.Need-sub-opened Inv-loop μ-loop
 sub-opened c = search needs
 
--- src/facts.rt:77:24
 part-opened-start : tie.Need-part-opened-start Inv-loop μ-loop
 part-opened-start c = search needs
 
--- src/facts.rt:77:24
 part-opened-end : tie.Need-part-opened-end Inv-loop μ-loop
 part-opened-end c = search needs
 
--- src/facts.rt:77:11
 opened-requires : tie.Need-opened-requires Inv-loop μ-loop
 opened-requires c κs = search needs
 
--- src/facts.rt:78:22
 enum-known-number-2 : tie.Need-enum-known-number-2 Inv-loop μ-loop
 enum-known-number-2 c = search needs
 
--- src/facts.rt:81:19
 enum-told : tie.Need-enum-told Inv-loop μ-loop
 enum-told c = search needs
 
--- src/facts.rt:81:19
 add-t27 : tie.Need-add-t27 Inv-loop μ-loop
 add-t27 c = search needs
 
--- src/facts.rt:59:1
 returns-2 : tie.Need-returns-2 Inv-loop μ-loop
 returns-2 c =
     end-refused _ _ _ (c .before .before .before .before .before .before .before .before .loop .inv) (gone (c .before .before .before .before .before)) (rw part-from at (c .before .before .before .opened .ensures)) (c .before .number2 .given .1)
 
--- src/facts.rt:59:1
 returns-3 : tie.Need-returns-3 Inv-loop μ-loop
 returns-3 c =
     end-passed _ _ _ (c .before .before .before .before .before .before .before .loop .inv) (gone (c .before .before .before .before)) (rw part-from at (c .before .before .opened .ensures)) (c .enum-told .given .1)

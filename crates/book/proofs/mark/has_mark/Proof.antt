@@ -6,28 +6,22 @@ use Rattle.book.proofs.mark.has_mark.Tie as tie
 use Rattle.book.proofs.mark.has_mark.Reads as reads
 use Rattle.book.proofs.mark.has_mark.Lts as lts
 
--- src/mark.rt:25:8
 shared-slice-read-if1 : tie.Need-shared-slice-read-if1
 shared-slice-read-if1 c = search needs
 
--- src/mark.rt:25:16
 array-read-if1 : tie.Need-array-read-if1
 array-read-if1 c = search needs
 
--- src/mark.rt:26:9
 shared-slice-read-result : tie.Need-shared-slice-read-result
 shared-slice-read-result c = search needs
 
--- src/mark.rt:26:17
 array-read-result : tie.Need-array-read-result
 array-read-result c = search needs
 
--- src/mark.rt:21:1
 returns : tie.Need-returns
 unfolding marked
-returns c = search (eq-eqb, ne-eqb)
+returns c = search eq-eqb
 
--- src/mark.rt:21:1
 returns-2 : tie.Need-returns-2
 unfolding marked
 returns-2 c = search (eq-eqb, ne-eqb)

@@ -9,26 +9,21 @@ use Rattle.book.proofs.mark.opened.Reads as reads
 use Rattle.book.proofs.mark.opened.Lts as lts
 use Rattle.book.proofs.mark.has_mark.Reads as has-mark-reads
 
--- src/mark.rt:37:9
 returns : tie.Need-returns
 unfolding opened checkAnswer
 returns c = search (le-leb, lt-leb)
 
--- src/mark.rt:39:9
 has-mark-requires : tie.Need-has-mark-requires
 has-mark-requires c κs = search needs
 
--- src/mark.rt:40:9
 returns-2 : tie.Need-returns-2
 unfolding opened checkAnswer
 returns-2 c = search (le-leb, mark-absent _ _ (c .before .has-mark .ensures) (c .if2 .taken))
 
--- src/mark.rt:43:9
 returns-3 : tie.Need-returns-3
 unfolding opened checkAnswer
 returns-3 c = search (le-leb, lt-leb, mark-present _ _ (c .before .before .has-mark .ensures) (c .before .if2 .left))
 
--- src/mark.rt:33:1
 returns-4 : tie.Need-returns-4
 unfolding opened checkAnswer
 returns-4 c = search (le-leb, lt-leb, mark-present _ _ (c .before .before .has-mark .ensures) (c .before .if2 .left))

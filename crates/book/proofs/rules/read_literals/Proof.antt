@@ -34,46 +34,36 @@ seen c = asked c ∙ ap variable (c .before .of-byte .ensures)
 loop-holds : tie.Need-loop-holds Inv-loop μ-loop
 loop-holds c = gathered-none _ _
 
--- src/rules.rt:41:35
 shared-slice-read-of-byte : tie.Need-shared-slice-read-of-byte Inv-loop μ-loop
 shared-slice-read-of-byte c = search needs
 
--- src/rules.rt:41:13
 of-byte-requires : tie.Need-of-byte-requires Inv-loop μ-loop
 of-byte-requires c κs = search needs
 
--- src/rules.rt:42:17
 variable-requires : tie.Need-variable-requires Inv-loop μ-loop
 variable-requires c κs = search needs
 
--- src/rules.rt:42:17
 cast-v : tie.Need-cast-v Inv-loop μ-loop
 cast-v c = omega (arith, c .variable .ok)
 
--- src/rules.rt:44:13
 returns : tie.Need-returns Inv-loop μ-loop
 returns c = not-rising _ _ (c .before .before .before .before .before .loop .inv) (c .before .before .before .before .loop-test .taken)
     (omega (arith, seen (c .before)))
 
--- src/rules.rt:47:13
 returns-2 : tie.Need-returns-2 Inv-loop μ-loop
 returns-2 c = too-high _ _ (c .before .before .before .before .before .before .loop .inv) (c .before .before .before .before .before .loop-test .taken)
     (omega (arith, seen (c .before .before)))
 
--- src/rules.rt:49:9
 with-requires : tie.Need-with-requires Inv-loop μ-loop
 with-requires c κs =
     rw (toZ-ofZ {w = w8} (record { sfits = c .before .before .before .of-byte .ok })) (omega (arith, asked (c .before .before)), omega (arith, asked (c .before .before)))
 
--- src/rules.rt:51:9
 add-i : tie.Need-add-i Inv-loop μ-loop
 add-i c = search needs
 
--- src/rules.rt:40:5
 loop-less : tie.Need-loop-less Inv-loop μ-loop
 loop-less c = search needs
 
--- src/rules.rt:40:5
 loop-again : tie.Need-loop-again Inv-loop μ-loop
 loop-again c =
     rw (asked (c .before .before .before))
@@ -83,7 +73,6 @@ loop-again c =
     (omega (arith, asked (c .before .before .before)))
     (rw (toZ-ofZ {w = w8} (record { sfits = c .before .before .before .before .of-byte .ok })) at (c .with .ensures)))
 
--- src/rules.rt:33:1
 returns-3 : tie.Need-returns-3 Inv-loop μ-loop
 returns-3 c = gathered-all _ _ (c .before .loop .inv) (c .loop-test .left)
 

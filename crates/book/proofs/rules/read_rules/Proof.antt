@@ -18,78 +18,61 @@ Inv-loop s n rules from yes₀ no₀ place₀ i₀ yes' no' place i = Stored n s
 abbrev μ-loop : tie.MeasureT-loop
 μ-loop s n rules from yes₀ no₀ place₀ i₀ yes' no' place i = rules - i
 
--- src/rules.rt:101:5
 loop-holds : tie.Need-loop-holds Inv-loop μ-loop
 loop-holds c = stored-none _ _ _ _ (c .before .pre .1 .1)
 
--- src/rules.rt:102:25
 sub-read-rule : tie.Need-sub-read-rule Inv-loop μ-loop
 sub-read-rule c = search needs
 
--- src/rules.rt:102:25
 part-read-rule-start : tie.Need-part-read-rule-start Inv-loop μ-loop
 part-read-rule-start c = search needs
 
--- src/rules.rt:102:25
 part-read-rule-end : tie.Need-part-read-rule-end Inv-loop μ-loop
 part-read-rule-end c = search needs
 
--- src/rules.rt:102:15
 read-rule-requires : tie.Need-read-rule-requires Inv-loop μ-loop
 read-rule-requires c κs = search needs
 
--- src/rules.rt:103:29
 enum-known-number : tie.Need-enum-known-number Inv-loop μ-loop
 enum-known-number c = search needs
 
--- src/rules.rt:104:17
 returns : tie.Need-returns Inv-loop μ-loop
 unfolding rulesAnswer padded
 returns c =
     rw (walked-refused _ _ _ _ _ (c .before .before .before .before .before .before .loop .inv .walked) (c .before .before .before .before .before .loop-test .taken)
     (rule-fails _ (rw part-from at (c .before .before .before .read-rule .ensures)) (c .before .number .given .1))) refl
 
--- src/rules.rt:110:30
 enum-known-set : tie.Need-enum-known-set Inv-loop μ-loop
 enum-known-set c = search needs
 
--- src/rules.rt:111:17
 mul-yes : tie.Need-mul-yes Inv-loop μ-loop
 mul-yes c = search needs
 
--- src/rules.rt:111:17
 array-write-yes : tie.Need-array-write-yes Inv-loop μ-loop
 array-write-yes c = search needs
 
--- src/rules.rt:112:17
 mul-no : tie.Need-mul-no Inv-loop μ-loop
 mul-no c = search needs
 
--- src/rules.rt:112:17
 array-write-no : tie.Need-array-write-no Inv-loop μ-loop
 array-write-no c = search needs
 
--- src/rules.rt:113:17
 add-place : tie.Need-add-place Inv-loop μ-loop
 add-place c =
     let r = rule-says _ (rw part-from at (c .before .before .before .read-rule .ensures)) (c .before .set .given .1) in
     omega (arith, simp length-drop at (rule-size _ _ (r .said)), c .before .before .before .before .before .before .loop .inv .walked .within)
 
--- src/rules.rt:114:17
 add-i : tie.Need-add-i Inv-loop μ-loop
 add-i c = search needs
 
--- src/rules.rt:101:5
 loop-less : tie.Need-loop-less Inv-loop μ-loop
 loop-less c = search needs
 
--- src/rules.rt:101:5
 loop-again : tie.Need-loop-again Inv-loop μ-loop
 loop-again c =
     stored-more _ _ _ _ _ _ (c .before .before .before .before .before .before .loop .inv) (c .before .before .before .before .before .loop-test .taken) (c .before .before .before .before .before .before .before .before .pre .1 .0)
     (rule-says _ (rw part-from at (c .before .before .before .read-rule .ensures)) (c .before .set .given .1))
 
--- src/rules.rt:91:1
 returns-2 : tie.Need-returns-2 Inv-loop μ-loop
 unfolding rulesAnswer
 returns-2 c =

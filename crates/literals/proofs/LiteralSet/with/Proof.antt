@@ -3,7 +3,7 @@ use mir.Facts.{toZ-ofZ}
 use Rattle.literals.specs.Literal.{variable}
 use native.Mathlib.Omega.{arith}
 use borrow.Author.Needs.{needs}
-use Rattle.literals.proofs.Grow.{grown-yes, grown-no}
+use Rattle.literals.proofs.WithLaws.{with-yes, with-no}
 use Rattle.literals.proofs.LiteralSet.with.Statement.{statement}
 use Rattle.literals.proofs.LiteralSet.with.Tie as tie
 use Rattle.literals.proofs.LiteralSet.with.Reads as reads
@@ -18,31 +18,25 @@ told c = rw (toZ-ofZ (c .before .fits .l)) at (c .variable .ensures)
 variable-requires : tie.Need-variable-requires
 variable-requires c κs = search needs
 
--- src/lib.rt:45:18
 sub-v : tie.Need-sub-v
 sub-v c = omega (arith, told c)
 
--- src/lib.rt:45:17
 cast-v : tie.Need-cast-v
 cast-v c = search needs
 
--- src/lib.rt:48:22
 insert-requires : tie.Need-insert-requires
 insert-requires c κs = omega (arith, told (c .before))
 
--- src/lib.rt:54:21
 insert-requires-2 : tie.Need-insert-requires-2
 insert-requires-2 c κs = omega (arith, told (c .before))
 
--- src/lib.rt:40:5
 returns : tie.Need-returns
 returns c =
-    grown-yes _ _ _ _ (c .before .before .before .fits .l) (c .before .before .before .pre .0) (c .before .if1 .taken) (told (c .before .before)) (c .insert .ensures)
+    with-yes _ _ _ _ (c .before .before .before .fits .l) (c .before .before .before .pre .0) (c .before .if1 .taken) (told (c .before .before)) (c .insert .ensures)
 
--- src/lib.rt:40:5
 returns-2 : tie.Need-returns-2
 returns-2 c =
-    grown-no _ _ _ _ (c .before .before .before .fits .l) (c .before .before .before .pre .0) (c .before .if1 .left) (told (c .before .before)) (c .insert2 .ensures)
+    with-no _ _ _ _ (c .before .before .before .fits .l) (c .before .before .before .pre .0) (c .before .if1 .left) (told (c .before .before)) (c .insert2 .ensures)
 
 pub with-spec : {M : Type 1} → statement M
 with-spec =

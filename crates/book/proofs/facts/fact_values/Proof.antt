@@ -10,10 +10,10 @@ use Rattle.book.specs.Answer.{factAnswer}
 use Rattle.book.specs.declared.facts.FactRead.the-variants as FactRead
 use Rattle.book.proofs.FactLaws.{one-low, one-high, one-risen}
 use borrow.Author.Needs.{needs}
-use Rattle.book.proofs.facts.fact_value.Statement.{statement}
-use Rattle.book.proofs.facts.fact_value.Tie as tie
-use Rattle.book.proofs.facts.fact_value.Reads as reads
-use Rattle.book.proofs.facts.fact_value.Lts as lts
+use Rattle.book.proofs.facts.fact_values.Statement.{statement}
+use Rattle.book.proofs.facts.fact_values.Tie as tie
+use Rattle.book.proofs.facts.fact_values.Reads as reads
+use Rattle.book.proofs.facts.fact_values.Lts as lts
 use Rattle.literals.proofs.of_byte.Reads as of-byte-reads
 use Rattle.literals.proofs.variable.Reads as variable-reads
 
@@ -21,40 +21,33 @@ use Rattle.literals.proofs.variable.Reads as variable-reads
 seen : (c : tie.After-variable) → c .variable .result ≡ variable (ofByte (getD (now (c .before .before .before .before .args .s)) 2 0))
 seen c = (rw (toZ-ofZ {w = w8} (record { sfits = c .before .of-byte .ok })) at (c .variable .ensures)) ∙ ap variable (c .before .of-byte .ensures)
 
--- src/facts.rt:36:31
 shared-slice-read-of-byte : tie.Need-shared-slice-read-of-byte
 shared-slice-read-of-byte c = search needs
 
--- src/facts.rt:36:9
 of-byte-requires : tie.Need-of-byte-requires
 of-byte-requires c κs = search needs
 
--- src/facts.rt:37:13
 variable-requires : tie.Need-variable-requires
 variable-requires c κs = search needs
 
--- src/facts.rt:37:13
 cast-v : tie.Need-cast-v
 cast-v c = search needs
 
--- src/facts.rt:39:9
 returns : tie.Need-returns
 unfolding factValues factAnswer
 returns c = rw (one-low _ _ _ (seen (c .before)) (c .if1 .taken)) refl
 
--- src/facts.rt:42:9
 returns-2 : tie.Need-returns-2
 unfolding factValues factAnswer
 returns-2 c = rw (one-high _ _ _ (seen (c .before .before)) (c .if2 .taken)) refl
 
--- src/facts.rt:32:1
 returns-3 : tie.Need-returns-3
 unfolding factValues factAnswer
 returns-3 c =
     rw (one-risen _ _ _ (seen (c .before .before)) (c .before .if1 .left) (c .if2 .left), toZ-ofZ {w = w8} (record { sfits = c .before .before .before .of-byte .ok })) (ap FactRead.Says (c .before .before .before .of-byte .ensures))
 
-pub fact-value-spec : {M : Type 1} → statement M
-fact-value-spec =
+pub fact-values-spec : {M : Type 1} → statement M
+fact-values-spec =
     tie.close
     (tie.spec
     shared-slice-read-of-byte

@@ -6,6 +6,6 @@ use Rattle.literals.specs.Truth.{yesBit, noBit}
 use Rattle.literals.specs.declared.LiteralSet.{LiteralSet}
 
 -- The set r is the set s with the literal l.
-pub record Grown (s : LiteralSet) (l : Literal) (r : LiteralSet) : Type 0 where
-  pub yes-grown : r .yes ≡ union (s .yes) (yesBit l)
-  pub no-grown : r .no ≡ union (s .no) (noBit l)
+pub record WithLiteral (s : LiteralSet) (l : Literal) (r : LiteralSet) : Type 0 where
+  pub yes-with : r .yes ≡ union (s .yes) (yesBit l)
+  pub no-with : r .no ≡ union (s .no) (noBit l)
