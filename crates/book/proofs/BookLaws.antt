@@ -13,7 +13,8 @@ use Rattle.literals.specs.Truth.{yesMask, noMask}
 use Rattle.literals.specs.declared.LiteralSet.{LiteralSet}
 use Rattle.book.specs.Limits.{maxVariables, maxChoices, maxRules}
 use Rattle.book.specs.Format.{RecordRead, says, fails, Read, value, refused, withItem, begin, andThen, check, byte, opened, HD, Header, Cost, OrderBook, headerAt, headerValues, many, factsFrom, ruleAt, bookEnds, fromRules}
-use Rattle.book.specs.Answer.{headerAnswer, placeAnswer, rulesAnswer, factsAnswer, bookAnswer, headerOf, masks, padded}
+use Rattle.book.specs.Answer.{bookAnswer, padded}
+use Rattle.book.specs.Contracts.{headerAnswer, placeAnswer, rulesAnswer, factsAnswer, headerOf, masks}
 use Rattle.book.specs.declared.Reading.{Reading}
 use Rattle.book.specs.declared.Verdict.the-variants as Verdict
 use Rattle.book.specs.declared.PlaceAfter.{PlaceAfter}

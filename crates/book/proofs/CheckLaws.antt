@@ -9,7 +9,7 @@ use borrow.Author.Tests.{leb-true, not-true, not-false}
 use lib.Dec.{leb, eqb}
 use lib.ListN.{length}
 use Rattle.book.specs.Format.{RecordRead, says, fails, check, checkedFirst, opened, marked, byte, pair, isCost, Cost, CS, costAt, costValues}
-use Rattle.book.specs.Answer.{checkAnswer, costAnswer}
+use Rattle.book.specs.Contracts.{checkAnswer, costAnswer}
 use Rattle.book.specs.declared.costs.CostRead.{CostRead}
 use Rattle.book.specs.declared.costs.CostRead.the-variants as CostRead
 use Rattle.book.specs.declared.mark.Check.{Check}

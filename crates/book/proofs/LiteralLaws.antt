@@ -17,7 +17,7 @@ use Rattle.literals.specs.WithLiteral.{WithLiteral}
 use Rattle.literals.specs.Laws.{yesMask-snoc, noMask-snoc}
 use Rattle.literals.specs.declared.LiteralSet.{LiteralSet}
 use Rattle.book.specs.Format.{rising}
-use Rattle.book.specs.Answer.{literalsAnswer, masks}
+use Rattle.book.specs.Contracts.{literalsAnswer, masks}
 use Rattle.book.specs.declared.rules.LiteralsRead.{LiteralsRead}
 use Rattle.book.specs.declared.rules.LiteralsRead.the-variants as LiteralsRead
 

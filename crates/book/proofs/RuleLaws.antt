@@ -14,7 +14,8 @@ use Rattle.literals.specs.Truth.{yesMask, noMask}
 use Rattle.literals.specs.declared.LiteralSet.{LiteralSet}
 use Rattle.book.specs.Limits.{maxRules, maxLiterals}
 use Rattle.book.specs.Format.{RecordRead, says, fails, check, opened, byte, rising, ruleAt, ruleValues, RL}
-use Rattle.book.specs.Answer.{masks, ruleAnswer, padded}
+use Rattle.book.specs.Answer.{padded}
+use Rattle.book.specs.Contracts.{masks, ruleAnswer}
 use Rattle.book.specs.declared.rules.RuleRead.{RuleRead}
 use Rattle.book.specs.declared.rules.RuleRead.the-variants as RuleRead
 use Rattle.book.proofs.CheckLaws.{checked-first-says, check-says, opened-says}

@@ -4,7 +4,7 @@ ghost use Prim.Native.Nat.{_+_, _<_, _≤_, suc};
 ghost use lib.ListN.{length};
 ghost use Rattle.sets.specs.Sets.{width};
 ghost use Rattle.book.specs.Format.{factAt, factValues, atFact, factsFrom};
-ghost use Rattle.book.specs.Answer.{factAnswer, factsAnswer};
+ghost use Rattle.book.specs.Contracts.{factAnswer, factsAnswer};
 use crate::mark;
 use crate::mark::Check;
 use literals::LiteralSet;

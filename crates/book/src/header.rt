@@ -3,7 +3,7 @@ ghost use mathlib.Core.Path.{_≡_};
 ghost use Prim.Native.Nat.{_≤_};
 ghost use lib.ListN.{length};
 ghost use Rattle.book.specs.Format.{headerAt, headerValues};
-ghost use Rattle.book.specs.Answer.{headerAnswer};
+ghost use Rattle.book.specs.Contracts.{headerAnswer};
 use crate::Book;
 use crate::mark;
 use crate::mark::Check;

@@ -6,7 +6,8 @@ ghost use mathlib.Core.List.{[]};
 ghost use Rattle.sets.specs.Sets.{width};
 ghost use Rattle.book.specs.Limits.{maxRules};
 ghost use Rattle.book.specs.Format.{readBook, fromRules};
-ghost use Rattle.book.specs.Answer.{emptyBook, bookAnswer, tableAnswer, headerOf};
+ghost use Rattle.book.specs.Answer.{emptyBook, bookAnswer, tableAnswer};
+ghost use Rattle.book.specs.Contracts.{headerOf};
 
 mod costs;
 mod facts;

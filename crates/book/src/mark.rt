@@ -3,7 +3,7 @@ ghost use mathlib.Core.Path.{_≡_};
 ghost use Prim.Native.Nat.{_≤_};
 ghost use lib.ListN.{length};
 ghost use Rattle.book.specs.Format.{marked, opened};
-ghost use Rattle.book.specs.Answer.{checkAnswer};
+ghost use Rattle.book.specs.Contracts.{checkAnswer};
 
 pub const HD: [u8; 2] = *b"HD";
 

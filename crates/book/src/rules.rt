@@ -7,7 +7,7 @@ ghost use Rattle.sets.specs.Sets.{width};
 ghost use Rattle.literals.specs.Literal.{ofByte};
 ghost use Rattle.book.specs.Limits.{maxRules};
 ghost use Rattle.book.specs.Format.{ruleAt, ruleValues, many};
-ghost use Rattle.book.specs.Answer.{literalsAnswer, ruleAnswer, rulesAnswer};
+ghost use Rattle.book.specs.Contracts.{literalsAnswer, ruleAnswer, rulesAnswer};
 use crate::Book;
 use crate::PlaceAfter;
 use crate::mark;

@@ -8,12 +8,12 @@ use native.Mathlib.Omega.{arith}
 use lib.ListN.{length, getD, length-append, List·getD-append}
 use lib.Seq.{getD-at}
 use Rattle.literals.specs.declared.LiteralSet.{LiteralSet}
-use Rattle.sat.specs.Contracts.{Posed, Masks, Searched}
+use Rattle.sat.specs.Contracts.{Posed, MasksBelow, Searched}
 use Rattle.sat.specs.declared.SearchResult.{SearchResult}
 use Rattle.sat.specs.declared.SearchResult.the-variants.{Found, Nothing}
 use Rattle.consequence.specs.Contracts.{Denied}
 
-masks-snoc : (n : ℕ) (ms : List ℕ) (m : ℕ) → Masks n ms → m < 2 ^ n → Masks n (ms ++ (m ∷ []))
+masks-snoc : (n : ℕ) (ms : List ℕ) (m : ℕ) → MasksBelow n ms → m < 2 ^ n → MasksBelow n (ms ++ (m ∷ []))
 masks-snoc n ms m a h = record { below = λ i l. go i l (decLt i (length ms)) }
   where
     go : (i : ℕ) → i < length (ms ++ (m ∷ [])) → Dec (i < length ms) → getD (ms ++ (m ∷ [])) i 0 < 2 ^ n

@@ -17,11 +17,12 @@ use Rattle.literals.specs.Truth.{obeysMasks}
 use Rattle.literals.specs.Laws.{obeys-yes, obeys-no, obeys-some, TrueLiteral}
 use Rattle.literals.specs.declared.LiteralSet.{LiteralSet}
 use Rattle.sat.specs.Meaning.{obeysAll, Model, NoModel}
+use Rattle.sat.specs.Laws.Rules.{and-both}
 use Rattle.sat.specs.Contracts.{Posed}
 use Rattle.sat.specs.declared.SearchResult.{SearchResult}
 use Rattle.sat.specs.declared.SearchResult.the-variants.{Found, Nothing}
 use Rattle.consequence.specs.Laws.Masks.{to-theory, of-theory}
-use Rattle.consequence.specs.Laws.Forcing.{both-true, Exactly, exactly-yes, exactly-no}
+use Rattle.consequence.specs.Laws.Forcing.{Exactly, exactly-yes, exactly-no}
 use Rattle.consequence.specs.Contracts.{maskTheory, Choosing, Denied, Narrowing, AllModels, Narrowed, commonYes, commonNo}
 
 -- ---- one rule more
@@ -46,7 +47,7 @@ module _ {n : ℕ} {ys ns : List ℕ} {on off : ℕ} (posed : Posed n ys ns on o
   -- a model that obeys one rule more, and back
   fewer-rules : (y k f : ℕ) → Model n (ys ++ (y ∷ [])) (ns ++ (k ∷ [])) on off f → Model n ys ns on off f × (obeysMasks f y k ≡ true)
   fewer-rules y k f m =
-      let t = both-true _ _ (sym (obeys-snoc f ys ns y k (posed .paired)) ∙ m .obeyed) in
+      let t = and-both _ _ (sym (obeys-snoc f ys ns y k (posed .paired)) ∙ m .obeyed) in
       (record { below = m .below; keeps = m .keeps; avoids = m .avoids; obeyed = t .0 }, t .1)
 
   more-rules : (y k f : ℕ) → Model n ys ns on off f → obeysMasks f y k ≡ true → Model n (ys ++ (y ∷ [])) (ns ++ (k ∷ [])) on off f

@@ -30,31 +30,31 @@ abbrev set : ℕ → ℕ → LiteralSet
 set y n = record { yes = y; no = n }
 
 -- The definitions that the meaning of a step computes with, and those of a book and its models, named once each.
-unfoldable computed : Question → Answer
+unfoldable pub computed : Question → Answer
 unfolding stepOf answerFrom stepFrom newOn newOff theStep candidates candidatesBelow candidatesFor candidate firstOf earlier before candidateCost isCandidate refutes againstOn againstOff reasonsOn reasonsOff goalLiteral goals noGoals yesGoals setCost sumBelow costOf yesForced noForced forcesYes forcesNo contradicts obeying
 computed q = stepOf q
 
-unfoldable readAndPosed : List ℕ → Read OrderBook
+unfoldable pub readAndPosed : List ℕ → Read OrderBook
 unfolding problemOf theoryOf table padded yesConsequence noConsequence follows hasModel models collect isModel obeysRules someFilling everyFilling everyUnder holds obeys allHold allHoldMasks bit has insert subset disjoint diff readBook fromRules factsFrom many endAt atFact factAt factValues ruleAt ruleValues costAt costValues headerAt headerValues rising opened isCost pair marked variable ofByte yesMask yesBit noMask noBit
 readAndPosed s = readBook s
 
 -- ---- the orders
 
 -- An order's bytes, its consequence or refusal, the answer of the log's call and the log's bytes, none where it refuses.
-pub record Row : Type 0 where
+pub record OrderRow : Type 0 where
   pub bytes : List ℕ
   pub consequence : ConsequenceAnswer
   pub answer : LogAnswer
   pub log : List ℕ
 
-abbrev refuses : List ℕ → ℕ → ℕ → Row
+abbrev refuses : List ℕ → ℕ → ℕ → OrderRow
 refuses s number place = record { bytes = s; consequence = Consequence.Refused number place; answer = Log.Refused number place; log = [] }
 
-abbrev logs : List ℕ → LiteralSet → ℕ → ℕ → ℕ → List ℕ → Row
+abbrev logs : List ℕ → LiteralSet → ℕ → ℕ → ℕ → List ℕ → OrderRow
 logs s c size steps total bytes = record { bytes = s; consequence = Consequence.Forced c; answer = Log.Written size steps total; log = bytes }
 
 -- In c the consequence is 1 2 3 4, in d 1, in g -1, in h 1, in i 1 2 3.
-unfoldable pub orders : List Row
+unfoldable pub orders : List OrderRow
 orders =
     refuses order-a 1 0
     ∷ logs order-b (set 0 0) 7 0 0 (0x4F ∷ 0x4B ∷ 0 ∷ 0 ∷ 0 ∷ 0 ∷ 0 ∷ [])
@@ -70,7 +70,7 @@ orders =
     ∷ []
 
 -- What the meanings say of an order's bytes, with a buffer of 547 bytes.
-unfoldable pub meant : List ℕ → Row
+unfoldable pub meant : List ℕ → OrderRow
 meant s =
     record {
       bytes = s;
@@ -79,24 +79,24 @@ meant s =
       log = bufferAfter (logOutcome maxLog (readBook s)) [];
     }
 
-pub orders-agree : map (λ (r : Row). meant (r .bytes)) orders ≡ orders
+pub orders-agree : map (λ (r : OrderRow). meant (r .bytes)) orders ≡ orders
 unfolding orders meant computed readAndPosed order-a order-b order-c order-d order-e order-f order-g order-h order-i order-j consequenceAnswer withModel logOutcome logAnswer bufferAfter ofRun runFor runOf runFrom withNew logBytes costsWritten okBytes recordsBytes recordBytes listBytes literalsOf twoBytes fourBytes byteOf members membersBelow membersFrom ones
 orders-agree = refl
 
 -- ---- single steps
 
 -- An order's bytes, a known set, and the answer of the next step's call.
-pub record StepRow : Type 0 where
+pub record KnownRow : Type 0 where
   pub bytes : List ℕ
   pub yes : ℕ
   pub no : ℕ
   pub answer : StepAnswer
 
-abbrev from : List ℕ → ℕ → ℕ → StepAnswer → StepRow
+abbrev from : List ℕ → ℕ → ℕ → StepAnswer → KnownRow
 from s y n a = record { bytes = s; yes = y; no = n; answer = a }
 
 -- P from 1 3, from 1 2 3, from 1 2 3 4 (nothing left) and from 1 alone, without fact 3 (10); then d, g, h and i from their facts.
-unfoldable pub steps : List StepRow
+unfoldable pub steps : List KnownRow
 steps =
     from order-c 5 0 (Next.Step (pos 2) (set 1 0) (set 2 0) 8)
     ∷ from order-c 7 0 (Next.Step (pos 4) (set 6 0) (set 8 0) 12)
@@ -108,6 +108,6 @@ steps =
     ∷ from order-i 1 0 (Next.Step (pos 2) (set 1 0) (set 6 0) 2)
     ∷ []
 
-pub steps-agree : map (λ (r : StepRow). from (r .bytes) (r .yes) (r .no) (stepAnswer (r .yes) (r .no) (readBook (r .bytes)))) steps ≡ steps
+pub steps-agree : map (λ (r : KnownRow). from (r .bytes) (r .yes) (r .no) (stepAnswer (r .yes) (r .no) (readBook (r .bytes)))) steps ≡ steps
 unfolding steps computed readAndPosed order-c order-d order-g order-h order-i stepAnswer stepFor stepSays between withModel
 steps-agree = refl

@@ -46,15 +46,8 @@ pub enum StepAnswer {
 
 // The log's length, its number of steps and its total, or the refusal.
 pub enum LogAnswer {
-    Written {
-        length: usize,
-        steps: u8,
-        total: u32,
-    },
-    Refused {
-        number: u8,
-        place: usize,
-    },
+    Written { size: usize, steps: u8, total: u32 },
+    Refused { number: u8, place: usize },
 }
 
 // The book reader: the accepted book, or the refusal with its number and place.
@@ -303,15 +296,7 @@ fn write_log(
         p.facts,
         buffer,
     ) {
-        Written::Log {
-            length,
-            steps,
-            total,
-        } => LogAnswer::Written {
-            length,
-            steps,
-            total,
-        },
+        Written::Log { size, steps, total } => LogAnswer::Written { size, steps, total },
         Written::Stuck => LogAnswer::Refused {
             number: 11,
             place: 0,

@@ -22,7 +22,7 @@ use Rattle.log.specs.declared.Written.the-variants as Written
 
 module _ (bytes : List ℕ) (at steps total : ℕ) where
   pub ended-ok : (next : Next) (out : List ℕ) (end : ℕ) → next ≡ Next.NothingLeft → Put bytes at (okBytes steps total) out end
-      → LogEnded bytes at steps total next (record { bytes = out; length = end; steps = steps; total = total; stuck = false })
+      → LogEnded bytes at steps total next (record { bytes = out; size = end; steps = steps; total = total; stuck = false })
   ended-ok next out end e p = rw e (record { said = (refl, p, refl, refl) })
 
   pub ended-none : (next : Next) (r : Built) → next ≡ Next.NoCandidate → r .stuck ≡ true → LogEnded bytes at steps total next r
@@ -60,8 +60,8 @@ pub written-stuck : (run : Run) (r : Built) (before : List ℕ) → Ran run r �
 written-stuck (done ss) r before a e = let z : _≡_ {A = ℕ} 0 1 = cc (a .said .not-stuck) in absurd (omega arith)
 written-stuck stuck r before a e = record { said = (refl, refl) }
 
-pub written-log : (run : Run) (r : Built) (before after : List ℕ) → Ran run r → r .stuck ≡ false → after ≡ take (r .length) (r .bytes) ++ drop (r .length) before
-    → WrittenAs run before after (Written.Log (r .length) (r .steps) (r .total))
+pub written-log : (run : Run) (r : Built) (before after : List ℕ) → Ran run r → r .stuck ≡ false → after ≡ take (r .size) (r .bytes) ++ drop (r .size) before
+    → WrittenAs run before after (Written.Log (r .size) (r .steps) (r .total))
 written-log (done ss) r before after a e h =
     let b = a .said in
     record {
@@ -73,7 +73,7 @@ written-log (done ss) r before after a e h =
     }
 written-log stuck r before after a e h = let z : _≡_ {A = ℕ} 0 1 = cc (a .said) in absurd (omega arith)
 
-pub built-short : (run : Run) (r : Built) → Ran run r → r .stuck ≡ false → r .length ≤ maxLog
+pub built-short : (run : Run) (r : Built) → Ran run r → r .stuck ≡ false → r .size ≤ maxLog
 built-short (done ss) r a e = a .said .short
 built-short stuck r a e = let z : _≡_ {A = ℕ} 0 1 = cc (a .said) in absurd (omega arith)
 

@@ -233,13 +233,13 @@ module _ {n : ℕ} {ys ns : List ℕ} {ch : ℕ} {table : List (List ℕ)} {c fa
     run-stuck : stepOf (maskQuestion n ys ns ch table c known) ≡ noCandidate → runOf (maskQuestion n ys ns ch table c facts) ≡ stuck
     run-stuck e = w .so-far ∙ ap (stepsThen (w .taken)) (last-stuck _ turn e) ∙ stepThen-stuck (w .taken)
 
-    built : (r : Built) → r .stuck ≡ false → Put bytes at (okBytes steps total) (r .bytes) (r .length) → r .steps ≡ steps → r .total ≡ total → BuiltAs (w .taken) r
+    built : (r : Built) → r .stuck ≡ false → Put bytes at (okBytes steps total) (r .bytes) (r .size) → r .steps ≡ steps → r .total ≡ total → BuiltAs (w .taken) r
     unfolding logBytes
     built r k o x y =
         let same : okBytes steps total ≡ okBytes (length (w .taken)) (totalOf (w .taken)) = ap₂ okBytes (w .counted) (w .summed) in
-        let all : Put (replicate maxLog 0) 0 (logBytes (logOf (w .taken))) (r .bytes) (r .length) = put-append (stepsBytes (w .taken)) (okBytes (length (w .taken)) (totalOf (w .taken))) (w .put) (rw same at o) in
-        let long : r .length ≡ length (logBytes (logOf (w .taken))) = all .place ∙ zero-add (length (logBytes (logOf (w .taken)))) in
-        let fits : r .length ≤ maxLog = omega (arith, o .place, ok-length steps total, w .short, w .left) in
+        let all : Put (replicate maxLog 0) 0 (logBytes (logOf (w .taken))) (r .bytes) (r .size) = put-append (stepsBytes (w .taken)) (okBytes (length (w .taken)) (totalOf (w .taken))) (w .put) (rw same at o) in
+        let long : r .size ≡ length (logBytes (logOf (w .taken))) = all .place ∙ zero-add (length (logBytes (logOf (w .taken)))) in
+        let fits : r .size ≤ maxLog = omega (arith, o .place, ok-length steps total, w .short, w .left) in
         record {
           not-stuck = k;
           first-bytes = rw long (put-front (logBytes (logOf (w .taken))) all (omega (arith, long, fits, length-replicate {A = ℕ} maxLog 0)));

@@ -61,7 +61,7 @@ pub record LogAsked (n : ℕ) (ys ns : List ℕ) (ch : ℕ) (table : List (List 
 
 -- The end of a log, where no step follows.
 abbrev pub LogEnds : List ℕ → ℕ → ℕ → ℕ → Next → Built → Type 0
-LogEnds bytes at steps total Next.NothingLeft r = (r .stuck ≡ false) × Put bytes at (okBytes steps total) (r .bytes) (r .length) × (r .steps ≡ steps) × (r .total ≡ total)
+LogEnds bytes at steps total Next.NothingLeft r = (r .stuck ≡ false) × Put bytes at (okBytes steps total) (r .bytes) (r .size) × (r .steps ≡ steps) × (r .total ≡ total)
 LogEnds bytes at steps total Next.NoCandidate r = r .stuck ≡ true
 LogEnds bytes at steps total (Next.Step g x y k) r = r .stuck ≡ true
 
@@ -71,9 +71,9 @@ pub record LogEnded (bytes : List ℕ) (at steps total : ℕ) (next : Next) (r :
 -- The log that was built is that of the run.
 pub record BuiltAs (ss : List Step) (r : Built) : Type 0 where
   pub not-stuck : r .stuck ≡ false
-  pub first-bytes : take (r .length) (r .bytes) ≡ logBytes (logOf ss)
-  pub length-is : r .length ≡ length (logBytes (logOf ss))
-  pub short : r .length ≤ maxLog
+  pub first-bytes : take (r .size) (r .bytes) ≡ logBytes (logOf ss)
+  pub length-is : r .size ≡ length (logBytes (logOf ss))
+  pub short : r .size ≤ maxLog
   pub room : length (r .bytes) ≡ maxLog
   pub steps-are : r .steps ≡ length ss
   pub total-is : r .total ≡ totalOf ss

@@ -112,7 +112,7 @@ fn put_ok(out: &mut [u8], at: usize, steps: u8, total: u32) -> usize
 // The log as it is built: its bytes, and what OK says. It is stuck where goals exist and no candidate does.
 struct Built {
     pub bytes: [u8; Book::MAX_LOG],
-    pub length: usize,
+    pub size: usize,
     pub steps: u8,
     pub total: u32,
     pub stuck: bool,
@@ -120,11 +120,7 @@ struct Built {
 
 // What the log's writer answers.
 pub enum Written {
-    Log {
-        length: usize,
-        steps: u8,
-        total: u32,
-    },
+    Log { size: usize, steps: u8, total: u32 },
     Stuck,
 }
 
@@ -134,7 +130,7 @@ fn stopped(bytes: [u8; Book::MAX_LOG]) -> Built
 {
     Built {
         bytes,
-        length: 0,
+        size: 0,
         steps: 0,
         total: 0,
         stuck: true,
@@ -149,10 +145,10 @@ fn ended(bytes: [u8; Book::MAX_LOG], at: usize, steps: u8, total: u32, next: Nex
     let mut out = bytes;
     match next {
         Next::NothingLeft => {
-            let length = put_ok(&mut out, at, steps, total);
+            let size = put_ok(&mut out, at, steps, total);
             Built {
                 bytes: out,
-                length,
+                size,
                 steps,
                 total,
                 stuck: false,
@@ -241,10 +237,10 @@ pub fn write(
         return Written::Stuck;
     }
     let bytes = built.bytes;
-    let length = built.length;
-    copy(buffer, bytes, length);
+    let size = built.size;
+    copy(buffer, bytes, size);
     Written::Log {
-        length,
+        size,
         steps: built.steps,
         total: built.total,
     }

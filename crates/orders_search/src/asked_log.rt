@@ -8,7 +8,7 @@ struct Answered {
     room: [u8; Answered::ROOM],
     number: u8,
     place: usize,
-    length: usize,
+    size: usize,
     steps: u8,
     total: u32,
 }
@@ -36,15 +36,11 @@ fn written(s: &[u8], len: usize) -> Answered {
     let mut room = [Answered::BEFORE; Answered::ROOM];
     let end = fitting(len);
     match engine::log(s, &mut room[0..end]) {
-        LogAnswer::Written {
-            length,
-            steps,
-            total,
-        } => Answered {
+        LogAnswer::Written { size, steps, total } => Answered {
             room,
             number: 0,
             place: 0,
-            length,
+            size,
             steps,
             total,
         },
@@ -52,7 +48,7 @@ fn written(s: &[u8], len: usize) -> Answered {
             room,
             number,
             place,
-            length: 0,
+            size: 0,
             steps: 0,
             total: 0,
         },
@@ -80,7 +76,7 @@ fn total_of(n: u32) -> u64 {
 
 // Whether the numbers that the call returned are those of a log.
 fn same_numbers(w: Answered, due: Log) -> bool {
-    if w.length != due.written.len {
+    if w.size != due.written.len {
         return false;
     }
     if steps_of(w.steps) != due.steps {

@@ -42,35 +42,35 @@ unfolding decimal
 decimal-more n h = digits-more n n h ∙ ap (λ ds. ds ++ ((0x30 + n % 10) ∷ [])) (digits-enough n (suc (n / 10)) (n / 10) (omega arith) (omega arith))
 
 -- the digits before the last one, where there are any
-unfoldable pub front : ℕ → List ℕ
-front n = cond (ltb n 10) [] (decimal (n / 10))
+unfoldable pub leading : ℕ → List ℕ
+leading n = cond (ltb n 10) [] (decimal (n / 10))
 
-front-one : (n : ℕ) → n < 10 → front n ≡ []
-unfolding front
+front-one : (n : ℕ) → n < 10 → leading n ≡ []
+unfolding leading
 front-one n h = rw (lt-ltb n 10 h) refl
 
-front-more : (n : ℕ) → 10 ≤ n → front n ≡ decimal (n / 10)
-unfolding front
+front-more : (n : ℕ) → 10 ≤ n → leading n ≡ decimal (n / 10)
+unfolding leading
 front-more n h = rw (le-ltb n 10 h) refl
 
-decimal-last : (n : ℕ) → decimal n ≡ front n ++ ((0x30 + n % 10) ∷ [])
+decimal-last : (n : ℕ) → decimal n ≡ leading n ++ ((0x30 + n % 10) ∷ [])
 decimal-last n = by-cases (decLt n 10)
     (λ l. let same : n ≡ n % 10 = omega arith in rw (front-one n l) (decimal-one n l ∙ ap (λ k. (0x30 + k) ∷ []) same))
     (λ l. let m : 10 ≤ n = omega arith in rw (front-more n m) (decimal-more n m))
 
 -- putting a number: the digits before the last one first
 module _ {a out : List ℕ} {at last : ℕ} (n : ℕ) where
-  pub put-front-one : n < 10 → out ≡ a → last ≡ at → Put a at (front n) out last
+  pub put-front-one : n < 10 → out ≡ a → last ≡ at → Put a at (leading n) out last
   put-front-one h e f = rw (front-one n h, e, f) (put-none a at)
 
-  pub put-front-more : {b : List ℕ} {k : ℕ} → 10 ≤ n → Put a at (decimal (n / 10)) b k → out ≡ b → last ≡ k → Put a at (front n) out last
+  pub put-front-more : {b : List ℕ} {k : ℕ} → 10 ≤ n → Put a at (decimal (n / 10)) b k → out ≡ b → last ≡ k → Put a at (leading n) out last
   put-front-more h p e f = rw (front-more n h, e, f) p
 
-  pub put-last : Put a at (front n) out last → Put a at (decimal n) (set out last (0x30 + n % 10)) (last + 1)
-  put-last p = rw (decimal-last n) (put-append (front n) ((0x30 + n % 10) ∷ []) p (put-byte out last (0x30 + n % 10)))
+  pub put-last : Put a at (leading n) out last → Put a at (decimal n) (set out last (0x30 + n % 10)) (last + 1)
+  put-last p = rw (decimal-last n) (put-append (leading n) ((0x30 + n % 10) ∷ []) p (put-byte out last (0x30 + n % 10)))
 
-  pub last-room : at + length (decimal n) ≤ length a → Put a at (front n) out last → last < length out
-  last-room h p = omega (arith, put-length (front n) p, p .place, ap length (decimal-last n), length-append (front n) ((0x30 + n % 10) ∷ []))
+  pub last-room : at + length (decimal n) ≤ length a → Put a at (leading n) out last → last < length out
+  last-room h p = omega (arith, put-length (leading n) p, p .place, ap length (decimal-last n), length-append (leading n) ((0x30 + n % 10) ∷ []))
 
 pub front-room : (n at room : ℕ) → 10 ≤ n → at + length (decimal n) ≤ room → at + length (decimal (n / 10)) ≤ room
 front-room n at room h k = omega (arith, ap length (decimal-more n h), length-append (decimal (n / 10)) ((0x30 + n % 10) ∷ []))

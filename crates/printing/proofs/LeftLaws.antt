@@ -72,23 +72,23 @@ put-front {text} {a} p h = record {
 
 module _ (a : List ℕ) (at : ℕ) (word : List ℕ) where
   -- after i bytes
-  pub record Copying (b : List ℕ) (i : ℕ) : Type 0 where
+  pub record WordPut (b : List ℕ) (i : ℕ) : Type 0 where
     pub within : i ≤ length word
     pub left : Left a at word b (at + i) (drop i word ∷ [])
 
-  pub copying-none : Copying a 0
+  pub copying-none : WordPut a 0
   copying-none = record { within = omega arith; left = rw (add-zero at) (left-all a at word) }
 
-  module _ {b : List ℕ} {i : ℕ} (w : Copying b i) (h : i < length word) where
+  module _ {b : List ℕ} {i : ℕ} (w : WordPut b i) (h : i < length word) where
     next : Left a at word b (at + i) ((getD word i 0 ∷ []) ∷ drop (i + 1) word ∷ [])
     next = left-as _ (w .left) (rw (add-one i, drop-cons word i 0 h) refl)
 
     pub copying-room : at + length word ≤ length a → at + i < length b
     copying-room k = omega (arith, part-room next k)
 
-    pub copying-more : Copying (set b (at + i) (getD word i 0)) (i + 1)
+    pub copying-more : WordPut (set b (at + i) (getD word i 0)) (i + 1)
     copying-more = let place : at + (i + 1) ≡ at + i + 1 = omega arith in
         record { within = omega arith; left = rw place (left-part next (put-byte b (at + i) (getD word i 0))) }
 
-  pub copying-all : {b : List ℕ} {i : ℕ} → Copying b i → length word ≤ i → Put a at word b (at + i)
+  pub copying-all : {b : List ℕ} {i : ℕ} → WordPut b i → length word ≤ i → Put a at word b (at + i)
   copying-all {b} {i} w h = left-none (left-as [] (w .left) (rw (drop-of-length-le word h) refl))

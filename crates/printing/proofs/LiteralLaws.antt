@@ -41,14 +41,14 @@ first-literal bytes i h = rw (add-one i, drop-cons bytes i 0 h) refl
 
 module _ (a : List ℕ) (at : ℕ) (bytes : List ℕ) where
   -- after i literals
-  pub record Listing (b : List ℕ) (k i : ℕ) : Type 0 where
+  pub record LiteralsPut (b : List ℕ) (k i : ℕ) : Type 0 where
     pub within : i ≤ length bytes
     pub left : Left a at (bytesText bytes) b k (bytesText (drop i bytes) ∷ [])
 
-  pub listing-none : Listing a at 0
+  pub listing-none : LiteralsPut a at 0
   listing-none = record { within = omega arith; left = left-all a at (bytesText bytes) }
 
-  module _ {b : List ℕ} {k i : ℕ} (w : Listing b k i) (h : i < length bytes) where
+  module _ {b : List ℕ} {k i : ℕ} (w : LiteralsPut b k i) (h : i < length bytes) where
     next : Left a at (bytesText bytes) b k ((0x20 ∷ []) ∷ literalText (ofByte (getD bytes i 0)) ∷ bytesText (drop (i + 1) bytes) ∷ [])
     next = left-as _ (w .left) (rw (first-literal bytes i h) (ap (λ l. 0x20 ∷ l) (append-assoc (literalText (ofByte (getD bytes i 0))) (bytesText (drop (i + 1) bytes)) [])))
 
@@ -62,10 +62,10 @@ module _ (a : List ℕ) (at : ℕ) (bytes : List ℕ) where
     pub literal-room : at + length (bytesText bytes) ≤ length a → k + 1 + length (literalText (ofByte (getD bytes i 0))) ≤ length (set b k 0x20)
     literal-room r = part-room blanked r
 
-    pub listing-more : {c : List ℕ} {r : ℕ} → Put (set b k 0x20) (k + 1) (literalText (ofByte (getD bytes i 0))) c r → Listing c r (i + 1)
+    pub listing-more : {c : List ℕ} {r : ℕ} → Put (set b k 0x20) (k + 1) (literalText (ofByte (getD bytes i 0))) c r → LiteralsPut c r (i + 1)
     listing-more p = record { within = omega arith; left = left-part blanked p }
 
-  pub listing-all : {b : List ℕ} {k i : ℕ} → Listing b k i → length bytes ≤ i → Put a at (bytesText bytes) b k
+  pub listing-all : {b : List ℕ} {k i : ℕ} → LiteralsPut b k i → length bytes ≤ i → Put a at (bytesText bytes) b k
   unfolding literalsText
   listing-all w h = left-none (left-as [] (w .left) (rw (drop-of-length-le bytes h) refl))
 

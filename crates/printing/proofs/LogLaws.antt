@@ -9,6 +9,7 @@ use native.Mathlib.Omega.{arith}
 use lib.ListN.{length, getD, take, drop, length-append, length-drop, length-take}
 use lib.Seq.{getD-drop}
 use Rattle.log.specs.Format.{Log, ST, begins, isLog, readRecords}
+use Rattle.log.specs.Laws.Reads.{Bytes}
 use Rattle.printing.specs.Text.{stepText, stepsText, doneText}
 use Rattle.printing.specs.Fields.{factsEnd, newEnd, recordSize, recordIn, totalIn}
 use Rattle.printing.proofs.DecimalLaws.{decimal-short}
@@ -59,10 +60,6 @@ same-log choices choices′ (suc turns) (suc turns′) place place′ s e f = �
     (split (begins ST s))
 
 -- ---- how long the text is
-
--- Each number is a byte.
-abbrev pub Bytes : List ℕ → Type 0
-Bytes s = (i : ℕ) → getD s i 0 < 256
 
 bytes-drop : (n : ℕ) (s : List ℕ) → Bytes s → Bytes (drop n s)
 bytes-drop n s h i = rw (getD-drop n s i 0) (h (n + i))

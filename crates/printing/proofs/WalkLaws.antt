@@ -10,13 +10,14 @@ use lib.ListN.{length, getD, take, drop, length-drop}
 use lib.Seq.{take-all, drop-drop}
 use Rattle.log.specs.Format.{Log, ST, begins, isLog, readRecords, readLog}
 use Rattle.log.specs.Contracts.{Put}
+use Rattle.log.specs.Laws.Reads.{Bytes}
 use Rattle.printing.specs.Text.{stepText, doneText, logText}
 use Rattle.printing.specs.Fields.{recordSize, recordIn, totalIn}
 use Rattle.printing.specs.Contracts.{LinePut, Printable, LogPut}
 use Rattle.printing.specs.declared.records.Line.{Line}
 use Rattle.printing.proofs.LeftLaws.{Left, left-all, left-as, left-part, left-last, part-room, put-front}
 use Rattle.printing.proofs.ReadLaws.{StepRead, step-read, EndRead, end-read}
-use Rattle.printing.proofs.LogLaws.{restText, step-text, end-text, no-turns, same-log, Bytes, text-length}
+use Rattle.printing.proofs.LogLaws.{restText, step-text, end-text, no-turns, same-log, text-length}
 
 -- The bytes from a place on, as the code cuts them off.
 abbrev pub tail : List ℕ → ℕ → List ℕ
@@ -94,13 +95,13 @@ module _ (out₀ log : List ℕ) where
       step-room = part-room next (omega (arith, w .room))
 
       module _ {out′ : List ℕ} {r : Line} (p : LinePut out at number (tail log from) out′ r) where
-        pub step-within : from + r .length ≤ length log
+        pub step-within : from + r .size ≤ length log
         step-within = omega (arith, p .length-is, step-fits, ap length (tail-is log from), length-drop from log, w .within)
 
-        pub step-less : length log - (from + r .length) < length log - from
+        pub step-less : length log - (from + r .size) < length log - from
         step-less = omega (arith, p .length-is, step-within)
 
-        pub walking-more : Walking out′ (r .next) (from + r .length) (number + 1)
+        pub walking-more : Walking out′ (r .next) (from + r .size) (number + 1)
         walking-more = record {
           choices = w .choices;
           says = w .says;

@@ -12,7 +12,7 @@ use Rattle.printing.specs.declared.records.Line.{Line}
 -- The line of the ST record at the front of s is put; the answer is the place after the line, and the record's length.
 pub record LinePut (before : List ℕ) (at number : ℕ) (s after : List ℕ) (r : Line) : Type 0 where
   pub put : Put before at (stepText number (recordIn s)) after (r .next)
-  pub length-is : r .length ≡ recordSize s
+  pub length-is : r .size ≡ recordSize s
 
 -- A text stands at the front of a buffer, every byte after it is as it was, and r is the text's length.
 pub record Front (text before after : List ℕ) (r : ℕ) : Type 0 where

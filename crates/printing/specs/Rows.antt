@@ -1,26 +1,23 @@
--- What is printed for starred orders at the counter (document 01), computed from the text of their logs and refusals.
+-- What is printed for the starred orders at the counter (document 01), computed from the meanings of their bytes.
 use mathlib.Core.Path.{_≡_, refl}
 use mathlib.Core.List.{List, [], _∷_, _++_, map}
 use Prim.Native.Nat.{ℕ}
-use lib.IntN.{pos, negsuc}
-use Rattle.literals.specs.Literal.{Literal}
-use Rattle.log.specs.Format.{StepRecord}
+use lib.Count.{ones}
+use Rattle.sets.specs.Sets.{membersFrom, membersBelow, members}
+use Rattle.book.specs.Orders.{order-a, order-b, order-c, order-d, order-e, order-f, order-g, order-h, order-i, order-j}
+use Rattle.log.specs.Meaning.{literalsOf, costsWritten, withNew, runFrom, runOf, runFor}
+use Rattle.engine.specs.Calls.{withModel, ofRun, logOutcome}
+use Rattle.engine.specs.Orders.{computed, readAndPosed}
 use Rattle.printing.specs.Text.{digits, decimal, literalText, literalsText, stepText, stepsText, doneText, logText, refusalText}
+use Rattle.printing.specs.Printed.{outcomeText, textOf}
 
--- A text, and the lines that are to be printed.
-pub record Row : Type 0 where
-  pub text : List ℕ
-  pub printed : List (List ℕ)
+-- An order's bytes, and the lines that are printed for them.
+pub record PrintedOrder : Type 0 where
+  pub bytes : List ℕ
+  pub lines : List (List ℕ)
 
-abbrev step : Literal → List Literal → List Literal → ℕ → StepRecord
-step goal reasons new cost = record { goal = goal; reasons = reasons; new = new; cost = cost }
-
--- The row of a log, and that of a refusal.
-abbrev logs : List StepRecord → ℕ → ℕ → List (List ℕ) → Row
-logs records steps total lines = record { text = logText (record { records = records; steps = steps; total = total }); printed = lines }
-
-abbrev refuses : ℕ → ℕ → List (List ℕ) → Row
-refuses number place lines = record { text = refusalText number place; printed = lines }
+abbrev prints : List ℕ → List (List ℕ) → PrintedOrder
+prints s ls = record { bytes = s; lines = ls }
 
 -- ---- the lines, in ASCII
 
@@ -78,18 +75,18 @@ refused9 = 0x72 ∷ 0x65 ∷ 0x66 ∷ 0x75 ∷ 0x73 ∷ 0x65 ∷ 0x64 ∷ 0x20 �
 
 -- ---- the rows
 
--- The orders b, c (book P), d, g, h and i; then the refusals of a, of j, and of e and f.
-unfoldable pub rows : List Row
+unfoldable pub rows : List PrintedOrder
 rows =
-    logs [] 0 0 (doneNone ∷ [])
-    ∷ logs (step (pos 2) (pos 1 ∷ []) (pos 2 ∷ []) 8 ∷ step (pos 4) (pos 2 ∷ pos 3 ∷ []) (pos 4 ∷ []) 12 ∷ []) 2 20 (stepP1 ∷ stepP2 ∷ doneP ∷ [])
-    ∷ logs (step (pos 1) [] (pos 1 ∷ []) 9 ∷ []) 1 9 (stepD ∷ doneD ∷ [])
-    ∷ logs (step (negsuc 0) [] (negsuc 0 ∷ []) 5 ∷ []) 1 5 (stepG ∷ doneG ∷ [])
-    ∷ logs [] 0 0 (doneNone ∷ [])
-    ∷ logs (step (pos 2) (pos 1 ∷ []) (pos 2 ∷ pos 3 ∷ []) 2 ∷ []) 1 2 (stepI ∷ doneI ∷ [])
-    ∷ refuses 1 0 (refused1 ∷ [])
-    ∷ refuses 6 12 (refused6 ∷ [])
-    ∷ refuses 9 0 (refused9 ∷ [])
+    prints order-a (refused1 ∷ [])
+    ∷ prints order-b (doneNone ∷ [])
+    ∷ prints order-c (stepP1 ∷ stepP2 ∷ doneP ∷ [])
+    ∷ prints order-d (stepD ∷ doneD ∷ [])
+    ∷ prints order-e (refused9 ∷ [])
+    ∷ prints order-f (refused9 ∷ [])
+    ∷ prints order-g (stepG ∷ doneG ∷ [])
+    ∷ prints order-h (doneNone ∷ [])
+    ∷ prints order-i (stepI ∷ doneI ∷ [])
+    ∷ prints order-j (refused6 ∷ [])
     ∷ []
 
 -- Lines, one after the other.
@@ -97,6 +94,6 @@ abbrev linesText : List (List ℕ) → List ℕ
 linesText [] = []
 linesText (l ∷ ls) = l ++ linesText ls
 
-pub rows-agree : map (λ (r : Row). r .text) rows ≡ map (λ (r : Row). linesText (r .printed)) rows
-unfolding rows digits decimal literalText literalsText stepText stepsText doneText logText refusalText
+pub rows-agree : map (λ (r : PrintedOrder). textOf (r .bytes)) rows ≡ map (λ (r : PrintedOrder). linesText (r .lines)) rows
+unfolding rows textOf outcomeText logText stepsText stepText doneText refusalText literalsText literalText decimal digits computed readAndPosed order-a order-b order-c order-d order-e order-f order-g order-h order-i order-j withModel logOutcome ofRun runFor runOf runFrom withNew costsWritten literalsOf members membersBelow membersFrom ones
 rows-agree = refl

@@ -32,10 +32,10 @@ pub fn print(s: &[u8], out: &mut [u8]) -> Printed
     match engine::log(s, &mut log) {
         LogAnswer::Refused { number, place } => Printed::Text(put_refusal(out, number, place)),
         LogAnswer::Written {
-            length,
+            size,
             steps: _,
             total: _,
-        } => Printed::Text(records::put_log(out, &log[..length])),
+        } => Printed::Text(records::put_log(out, &log[..size])),
     }
 }
 

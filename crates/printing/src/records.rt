@@ -11,7 +11,7 @@ use crate::text;
 // The place after a line, and the length of the record that it prints.
 pub struct Line {
     pub next: usize,
-    pub length: usize,
+    pub size: usize,
 }
 
 // The number in two bytes, the high one first.
@@ -57,7 +57,7 @@ fn put_step(out: &mut [u8], at: usize, number: u64, s: &[u8]) -> Line
     let next = put_line(out, at, number, s[2], facts, &s[new..new_end], cost);
     Line {
         next,
-        length: new_end + 2,
+        size: new_end + 2,
     }
 }
 
@@ -84,7 +84,7 @@ pub fn put_log(out: &mut [u8], log: &[u8]) -> usize
     while log::at_step(&log[from..]) {
         let line = put_step(out, at, number, &log[from..]);
         at = line.next;
-        from += line.length;
+        from += line.size;
         number += 1;
     }
     put_done(out, at, &log[from..])

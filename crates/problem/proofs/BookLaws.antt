@@ -24,7 +24,7 @@ use Rattle.book.specs.Limits.{maxVariables, maxChoices, maxRules, maxCost}
 use Rattle.book.specs.Format.{OrderBook, Cost, rising}
 use Rattle.book.specs.Answer.{maskedBook, table, row, padded}
 use Rattle.book.proofs.WellFormed.{Each, LiteralsRise, GoodCost, WellFormed}
-use Rattle.sat.specs.Contracts.{Posed, Masks}
+use Rattle.sat.specs.Contracts.{Posed, MasksBelow}
 use Rattle.sat.specs.Laws.Rules.{Of, masks-none, masks-more, yesMask-lt, noMask-lt}
 use Rattle.problem.specs.Limits.{mostRules}
 use Rattle.problem.specs.Problem.{Problem, problemOf, given, costOf}
@@ -172,7 +172,7 @@ module _ {b : OrderBook} (w : WellFormed b) where
 
 -- ---- the search of a proper problem
 
-masks-below : (n : ℕ) (mask : List Literal → ℕ) → ((ls : List Literal) → Of n ls → mask ls < 2 ^ n) → (rs : List (List Literal)) → AllOf n rs → Masks n (map mask rs)
+masks-below : (n : ℕ) (mask : List Literal → ℕ) → ((ls : List Literal) → Of n ls → mask ls < 2 ^ n) → (rs : List (List Literal)) → AllOf n rs → MasksBelow n (map mask rs)
 masks-below n mask h [] e = masks-none n
 masks-below n mask h (r ∷ rs) e = masks-more (h r (e .0)) (masks-below n mask h rs (e .1))
 

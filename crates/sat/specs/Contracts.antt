@@ -17,15 +17,15 @@ use Rattle.sat.specs.declared.SearchResult.the-variants.{Found, Nothing}
 -- ---- what is asked
 
 -- Every mask of the list is one of n variables.
-pub record Masks (n : ℕ) (ms : List ℕ) : Type 0 where
+pub record MasksBelow (n : ℕ) (ms : List ℕ) : Type 0 where
   pub below : (i : ℕ) → i < length ms → getD ms i 0 < 2 ^ n
 
 -- Rules and a partial filling of n variables: each rule has both masks, and no variable is both on and off.
 pub record Posed (n : ℕ) (ys ns : List ℕ) (on off : ℕ) : Type 0 where
   pub small : n ≤ width
   pub paired : length ys ≡ length ns
-  pub yes-masks : Masks n ys
-  pub no-masks : Masks n ns
+  pub yes-masks : MasksBelow n ys
+  pub no-masks : MasksBelow n ns
   pub on-below : on < 2 ^ n
   pub off-below : off < 2 ^ n
   pub apart : Apart on off
@@ -48,7 +48,7 @@ pub record Assigned (on off v : ℕ) (value : Bool) (a b : ℕ) : Type 0 where
 -- ---- looking at one rule, the masks y and n, under a partial filling
 
 -- Each of k variables is set, to one value.
-pub record Full (k on off : ℕ) : Type 0 where
+pub record AllSet (k on off : ℕ) : Type 0 where
   pub set : (v : ℕ) → v < k → bit on v + bit off v ≡ 1
 
 -- No filling that extends the partial one obeys the rule.
@@ -65,7 +65,7 @@ pub record ForcesVariable (y n on off v : ℕ) (value : Bool) : Type 0 where
 
 -- The rule is obeyed where each variable is set.
 pub record ObeyedWhenFull (y n on off : ℕ) : Type 0 where
-  pub when-full : (k : ℕ) → y < 2 ^ k → n < 2 ^ k → Full k on off → obeysMasks on y n ≡ true
+  pub when-full : (k : ℕ) → y < 2 ^ k → n < 2 ^ k → AllSet k on off → obeysMasks on y n ≡ true
 
 -- What a look at the rule tells.
 abbrev pub Tells : ℕ → ℕ → ℕ → ℕ → Look → Type 0
@@ -107,7 +107,7 @@ pub record QuietBefore (i : ℕ) (ys ns : List ℕ) (on off : ℕ) : Type 0 wher
 
 -- All rules are obeyed where each variable is set.
 pub record Still (ys ns : List ℕ) (on off : ℕ) : Type 0 where
-  pub still : (n : ℕ) → Posed n ys ns on off → Full n on off → obeysAll on ys ns ≡ true
+  pub still : (n : ℕ) → Posed n ys ns on off → AllSet n on off → obeysAll on ys ns ≡ true
 
 -- A pass before rule i: (a, b) has the models of (on, off). If a variable was set, fewer are left; if none, no rule so far told anything.
 abbrev pub Moves : Bool → ℕ → List ℕ → List ℕ → ℕ → ℕ → ℕ → ℕ → Type 0

@@ -95,8 +95,8 @@ RisingFrom v [] = Unit {0}
 RisingFrom v (u ∷ l) = (v ≤ u) × RisingFrom (suc u) l
 
 -- Each element is greater than those before it.
-abbrev pub Rising : List ℕ → Type 0
-Rising l = RisingFrom 0 l
+abbrev pub StrictlyRising : List ℕ → Type 0
+StrictlyRising l = RisingFrom 0 l
 
 -- Each element of a is in b: what `subset` tests.
 pub record Within (a b : ℕ) : Type 0 where

@@ -2,7 +2,8 @@ use mathlib.Core.Path.{_≡_, refl, _∙_}
 use native.Mathlib.Omega.{arith}
 use denote.Ref.{now}
 use Rattle.book.specs.Format.{says, headerAt, readBook}
-use Rattle.book.specs.Answer.{bookAnswer, headerOf}
+use Rattle.book.specs.Answer.{bookAnswer}
+use Rattle.book.specs.Contracts.{headerOf}
 use Rattle.book.proofs.BookLaws.{HeaderSaid, HeaderWhole, header-fails, header-says, header-whole, many-within, place-refused, place-at, costs-beside}
 use Rattle.book.proofs.CheckLaws.{cost-within}
 use borrow.Author.Needs.{needs}

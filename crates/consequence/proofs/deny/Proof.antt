@@ -21,39 +21,30 @@ no-more : (c : tie.After-with-one-more2)
     → take (length (now (c .before .before .before .before .args .yes)) + 1) (c .with-one-more2 .result) ≡ now (c .before .before .before .before .args .no) ++ (c .before .before .before .before .args .kept .yes ∷ [])
 no-more c = rw (c .before .before .before .before .pre .0 .paired) (c .with-one-more2 .ensures)
 
--- src/lib.rt:45:20
 with-one-more-requires : tie.Need-with-one-more-requires
 with-one-more-requires c κs = search needs
 
--- src/lib.rt:46:19
 with-one-more-requires-2 : tie.Need-with-one-more-requires-2
 with-one-more-requires-2 c κs = search needs
 
--- src/lib.rt:47:17
 add-rules : tie.Need-add-rules
 add-rules c = search needs
 
--- src/lib.rt:48:20
 array-share-prefix-more-yes : tie.Need-array-share-prefix-more-yes
 array-share-prefix-more-yes c = search needs
 
--- src/lib.rt:48:20
 slice-aggregate-search : tie.Need-slice-aggregate-search
 slice-aggregate-search c = rw (yes-more (c .before), length-append) refl
 
--- src/lib.rt:48:40
 array-share-prefix-more-no : tie.Need-array-share-prefix-more-no
 array-share-prefix-more-no c = search needs
 
--- src/lib.rt:48:40
 slice-aggregate-search-2 : tie.Need-slice-aggregate-search-2
 slice-aggregate-search-2 c = rw (no-more (c .before .before), length-append, c .before .before .before .before .before .before .pre .0 .paired) refl
 
--- src/lib.rt:48:5
 search-requires : tie.Need-search-requires
 search-requires c κs = rw (yes-more (c .before .before), no-more (c .before .before)) (posed-more _ _ (c .before .before .before .before .before .before .pre .0) (c .before .before .before .before .before .before .pre .1 .1 .1) (c .before .before .before .before .before .before .pre .1 .1 .0))
 
--- src/lib.rt:38:1
 returns : tie.Need-returns
 returns c = denied _ _ _ _ _ _ _ _ (rw (yes-more (c .before .before .before), no-more (c .before .before .before)) at (c .search .ensures))
 

@@ -17,47 +17,36 @@ Inv-loop n yes' no' choices p first kept₀ kept = Narrowing n yes' no' choices 
 abbrev μ-loop : tie.MeasureT-loop
 μ-loop n yes' no' choices p first kept₀ kept = count (kept .yes) + count (kept .no)
 
--- src/lib.rt:57:14
 intersection-requires : tie.Need-intersection-requires Inv-loop μ-loop
 intersection-requires c κs = search needs
 
--- src/lib.rt:58:13
 difference-requires : tie.Need-difference-requires Inv-loop μ-loop
 difference-requires c κs = search needs
 
--- src/lib.rt:60:5
 loop-holds : tie.Need-loop-holds Inv-loop μ-loop
 loop-holds c = kept-first (c .before .before .before .before .pre) (c .before .intersection .ensures) (c .difference .ensures)
 
--- src/lib.rt:61:15
 deny-requires : tie.Need-deny-requires Inv-loop μ-loop
 deny-requires c κs = (c .before .before .before .before .before .pre .posed, (c .before .before .before .before .before .pre .few, (kept-yes-below (c .before .before .before .before .before .pre) (c .loop .inv), kept-no-below (c .before .before .before .before .before .pre) (c .loop .inv))))
 
--- src/lib.rt:62:33
 enum-told : tie.Need-enum-told Inv-loop μ-loop
 enum-told c = search needs
 
--- src/lib.rt:62:33
 returns : tie.Need-returns Inv-loop μ-loop
 returns c = kept-all (c .before .before .before .before .before .before .before .before .pre) (c .before .before .before .loop .inv) (c .before .before .deny .ensures) (c .enum-told .given .1)
 
--- src/lib.rt:63:28
 enum-known-m : tie.Need-enum-known-m Inv-loop μ-loop
 enum-known-m c = search needs
 
--- src/lib.rt:65:26
 intersection-requires-2 : tie.Need-intersection-requires-2 Inv-loop μ-loop
 intersection-requires-2 c κs = search needs
 
--- src/lib.rt:66:25
 difference-requires-2 : tie.Need-difference-requires-2 Inv-loop μ-loop
 difference-requires-2 c κs = search needs
 
--- src/lib.rt:60:5
 loop-less : tie.Need-loop-less Inv-loop μ-loop
 loop-less c = kept-less (c .before .before .before .before .before .before .before .before .before .before .before .pre) (c .before .before .before .before .before .deny .ensures) (c .before .before .before .m .given .1) (c .before .intersection2 .ensures) (c .difference2 .ensures)
 
--- src/lib.rt:60:5
 loop-again : tie.Need-loop-again Inv-loop μ-loop
 loop-again c =
     kept-more (c .before .before .before .before .before .before .before .before .before .before .before .pre) (c .before .before .before .before .before .deny .ensures) (c .before .before .before .m .given .1) (c .before .before .before .before .before .before .loop .inv) (c .before .intersection2 .ensures) (c .difference2 .ensures)

@@ -9,28 +9,22 @@ use Rattle.consequence.proofs.propagate.Lts as lts
 use Rattle.consequence.proofs.narrow.Reads as narrow-reads
 use Rattle.sat.proofs.search.Reads as search-reads
 
--- src/lib.rt:80:11
 search-requires : tie.Need-search-requires
 search-requires c κs = search needs
 
--- src/lib.rt:81:29
 enum-told : tie.Need-enum-told
 enum-told c = search needs
 
--- src/lib.rt:82:24
 enum-known-m : tie.Need-enum-known-m
 enum-known-m c = search needs
 
--- src/lib.rt:82:50
 narrow-requires : tie.Need-narrow-requires
 narrow-requires c κs =
     record { posed = c .before .before .before .before .before .before .pre .0; few = c .before .before .before .before .before .before .pre .1 .0; choices-below = c .before .before .before .before .before .before .pre .1 .1; model = searched-first (c .before .before .before .search .ensures) (c .before .m .given .1) .model }
 
--- src/lib.rt:74:1
 returns : tie.Need-returns
 returns c = record { said = none-contradicts _ _ _ (none-to-theory _ (searched-none (c .before .before .search .ensures) (c .enum-told .given .1))) }
 
--- src/lib.rt:74:1
 returns-2 : tie.Need-returns-2
 returns-2 c = record { said = (model-contradicts _ _ _ _ (to-theory _ (searched-first (c .before .before .before .before .search .ensures) (c .before .before .m .given .1) .model)), c .narrow .ensures) }
 

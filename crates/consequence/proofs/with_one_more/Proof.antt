@@ -14,47 +14,36 @@ Inv-loop masks last all₀ i₀ all i = Copied masks all i
 abbrev μ-loop : tie.MeasureT-loop
 μ-loop masks last all₀ i₀ all i = length masks - i
 
--- src/lib.rt:28:5
 loop-holds : tie.Need-loop-holds Inv-loop μ-loop
 loop-holds c = copied-none _
 
--- src/lib.rt:29:18
 mul-all : tie.Need-mul-all Inv-loop μ-loop
 mul-all c = search needs
 
--- src/lib.rt:29:18
 shared-slice-read-all : tie.Need-shared-slice-read-all Inv-loop μ-loop
 shared-slice-read-all c = search needs
 
--- src/lib.rt:29:9
 mul-all-2 : tie.Need-mul-all-2 Inv-loop μ-loop
 mul-all-2 c = search needs
 
--- src/lib.rt:29:9
 array-write-all : tie.Need-array-write-all Inv-loop μ-loop
 array-write-all c = search needs
 
--- src/lib.rt:30:9
 add-i : tie.Need-add-i Inv-loop μ-loop
 add-i c = search needs
 
--- src/lib.rt:28:5
 loop-less : tie.Need-loop-less Inv-loop μ-loop
 loop-less c = search needs
 
--- src/lib.rt:28:5
 loop-again : tie.Need-loop-again Inv-loop μ-loop
 loop-again c = copied-more _ (c .before .before .before .pre) (c .before .before .loop .inv) (c .before .loop-test .taken)
 
--- src/lib.rt:32:5
 mul-all-3 : tie.Need-mul-all-3 Inv-loop μ-loop
 mul-all-3 c = search needs
 
--- src/lib.rt:32:5
 array-write-all-2 : tie.Need-array-write-all-2 Inv-loop μ-loop
 array-write-all-2 c = search needs
 
--- src/lib.rt:22:1
 returns : tie.Need-returns Inv-loop μ-loop
 returns c = copied-all _ _ (c .before .before .pre) (c .before .loop .inv) (c .loop-test .left)
 

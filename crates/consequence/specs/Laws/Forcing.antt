@@ -12,18 +12,14 @@ use Rattle.sets.specs.Laws.Bits.{bit-zero, bit-le, bit-high, bit-insert-same, b
 use Rattle.sets.specs.Laws.Subset.{has-true, has-false, one-has, zero-has}
 use Rattle.sat.specs.Meaning.{everyFilling, extends}
 use Rattle.sat.specs.Laws.Fillings.{every-all, all-every, every-fails}
-use Rattle.sat.specs.Laws.Rules.{extends-both, both-extends}
+use Rattle.sat.specs.Laws.Rules.{and-both, extends-both, both-extends}
 use Rattle.consequence.specs.Meaning.{Theory, obeying, contradicts, forcesYes, forcesNo, collect, yesForced, noForced, ModelOf, NoModelOf}
-
-pub both-true : (a b : Bool) → a && b ≡ true → (a ≡ true) × (b ≡ true)
-both-true true b e = (refl, e)
-both-true false b e = absurd (false≢true e)
 
 module _ (p : Theory) (on off : ℕ) where
   pub obeying-model : (f : ℕ) → f < 2 ^ p .variables → obeying p on off f ≡ true → ModelOf p on off f
   unfolding obeying extends
   obeying-model f h e =
-      let s = both-true (p .obeyed f) (extends on off f) e in
+      let s = and-both (p .obeyed f) (extends on off f) e in
       let x = extends-both on off f (s .1) in
       record { below = h; keeps = x .0; avoids = x .1; obeyed = s .0 }
 
@@ -161,7 +157,7 @@ module _ (p : Theory) (on off : ℕ) where
   unfolding yesForced
   yes-exactly = record {
     below = collect-lt _ _;
-    sound = λ v e. sound v (both-true _ _ (collect-true _ _ v e .1));
+    sound = λ v e. sound v (and-both _ _ (collect-true _ _ v e .1));
     complete = λ v h c a. collect-in _ _ v h (rw (one-has (p .choices) v c) (yes-forces p on off v a));
   }
     where
@@ -172,7 +168,7 @@ module _ (p : Theory) (on off : ℕ) where
   unfolding noForced
   no-exactly = record {
     below = collect-lt _ _;
-    sound = λ v e. sound v (both-true _ _ (collect-true _ _ v e .1));
+    sound = λ v e. sound v (and-both _ _ (collect-true _ _ v e .1));
     complete = λ v h c a. collect-in _ _ v h (rw (one-has (p .choices) v c) (no-forces p on off v a));
   }
     where

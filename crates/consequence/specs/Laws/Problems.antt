@@ -12,10 +12,11 @@ use Rattle.literals.specs.Truth.{holds}
 use Rattle.literals.specs.Laws.{Proper, masks-hold}
 use Rattle.sat.specs.Meaning.{everyFilling, someFilling, obeysRules, isModel}
 use Rattle.sat.specs.Laws.Fillings.{every-all, all-every, some-witness, some-none, witness-some}
+use Rattle.sat.specs.Laws.Rules.{and-both}
 use Rattle.problem.specs.Problem.{Problem, given}
 use Rattle.consequence.specs.Meaning.{models, hasModel, follows, collect, yesConsequence, noConsequence, consequenceOf, Theory, theoryOf, obeying, contradicts, forcesYes, forcesNo, yesForced, noForced, ModelOf}
 use Rattle.consequence.specs.Demand2.{FilledIn, OverChoice, Always, Demand2, NoFilling}
-use Rattle.consequence.specs.Laws.Forcing.{collect-in, collect-true, both-true, obeying-model, model-obeying}
+use Rattle.consequence.specs.Laws.Forcing.{collect-in, collect-true, obeying-model, model-obeying}
 
 -- ---- the given facts as a set
 
@@ -83,10 +84,10 @@ module _ (p : Problem) where
       sound : (l : Literal) → FilledIn (consequenceOf p) l → OverChoice p l × Always p l
       sound (pos zero) i = absurd i
       sound (pos (suc v)) i =
-          let t = both-true _ _ (collect-true (p .variables) (λ u. has (p .choices) u && follows p (pos (suc u))) v i .1) in
+          let t = and-both _ _ (collect-true (p .variables) (λ u. has (p .choices) u && follows p (pos (suc u))) v i .1) in
           (has-true (p .choices) v (t .0), follows-is _ (t .1))
       sound (negsuc v) i =
-          let t = both-true _ _ (collect-true (p .variables) (λ u. has (p .choices) u && follows p (negsuc u)) v i .1) in
+          let t = and-both _ _ (collect-true (p .variables) (λ u. has (p .choices) u && follows p (negsuc u)) v i .1) in
           (has-true (p .choices) v (t .0), follows-is _ (t .1))
 
       in-both : (v : ℕ) (l : Literal) → bit (p .choices) v ≡ 1 → Always p l → has (p .choices) v && follows p l ≡ true

@@ -29,33 +29,26 @@ good c = well-formed _ (said c .said)
 posed : (c : tie.After-of-book) → c .of-book .result ≡ maskedFrom (maskedBook (said (c .before .before) .book))
 posed c = c .of-book .ensures ∙ ap maskedFrom (said (c .before .before) .keeps)
 
--- src/lib.rt:85:9
 read-requires : tie.Need-read-requires
 read-requires c κs = search needs
 
--- src/lib.rt:88:34
 enum-known-verdict : tie.Need-enum-known-verdict
 enum-known-verdict c = search needs
 
--- src/lib.rt:90:17
 enum-told : tie.Need-enum-told
 enum-told c = search needs
 
--- src/lib.rt:91:23
 of-book-requires : tie.Need-of-book-requires
 of-book-requires c κs =
     rw (said (c .before) .keeps) (omega (arith, good (c .before) .few-variables), omega (arith, good (c .before) .few-choices))
 
--- src/lib.rt:91:13
 propagate-requires : tie.Need-propagate-requires
 propagate-requires c κs = rw (posed c) (searchable (good (c .before .before)))
 
--- src/lib.rt:82:1
 returns : tie.Need-returns
 unfolding consequenceAnswer withModel
 returns c = consequence-call (rw (book-refused _ (c .before .before .before .read .ensures) (c .before .verdict .given .1)) refl)
 
--- src/lib.rt:82:1
 returns-2 : tie.Need-returns-2
 returns-2 c = consequence-call (rw (said (c .before .before .before) .said) (consequence-says (good (c .before .before .before)) _ _ (rw (posed (c .before)) at (c .propagate .ensures))))
 

@@ -7,38 +7,30 @@ use Rattle.engine.proofs.lies_between.Reads as reads
 use Rattle.engine.proofs.lies_between.Lts as lts
 use Rattle.sets.proofs.subset.Reads as subset-reads
 
--- src/lib.rt:170:9
 subset-requires : tie.Need-subset-requires
 subset-requires c κs = search needs
 
--- src/lib.rt:171:9
 returns : tie.Need-returns
 unfolding between
 returns c = search (flag-no (c .before .subset .ensures) (c .if1 .taken))
 
--- src/lib.rt:173:9
 subset-requires-2 : tie.Need-subset-requires-2
 subset-requires-2 c κs = search needs
 
--- src/lib.rt:174:9
 returns-2 : tie.Need-returns-2
 unfolding between
 returns-2 c = search (flag-yes (c .before .before .before .subset .ensures) (c .before .before .if1 .left), flag-no (c .before .subset2 .ensures) (c .if2 .taken))
 
--- src/lib.rt:176:9
 subset-requires-3 : tie.Need-subset-requires-3
 subset-requires-3 c κs = search needs
 
--- src/lib.rt:177:9
 returns-3 : tie.Need-returns-3
 unfolding between
 returns-3 c = search (flag-yes (c .before .before .before .before .before .subset .ensures) (c .before .before .before .before .if1 .left), flag-yes (c .before .before .before .subset2 .ensures) (c .before .before .if2 .left), flag-no (c .before .subset3 .ensures) (c .if3 .taken))
 
--- src/lib.rt:179:5
 subset-requires-4 : tie.Need-subset-requires-4
 subset-requires-4 c κs = search needs
 
--- src/lib.rt:167:1
 returns-4 : tie.Need-returns-4
 unfolding between
 returns-4 c =

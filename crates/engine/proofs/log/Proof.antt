@@ -33,45 +33,35 @@ priced : (c : tie.After-read-costs) → c .read-costs .result ≡ table (said (c
 unfolding tableAnswer
 priced c = c .read-costs .ensures ∙ ap (tableAnswer (λ b. b .costs)) (said (c .before .before) .said)
 
--- src/lib.rt:256:9
 read-requires : tie.Need-read-requires
 read-requires c κs = search needs
 
--- src/lib.rt:259:34
 enum-known-verdict : tie.Need-enum-known-verdict
 enum-known-verdict c = search needs
 
--- src/lib.rt:261:16
 enum-told : tie.Need-enum-told
 enum-told c = search needs
 
--- src/lib.rt:262:17
 returns : tie.Need-returns
 returns c = short-of (said (c .before) .said) (c .if1 .taken)
 
--- src/lib.rt:267:17
 read-costs-requires : tie.Need-read-costs-requires
 read-costs-requires c κs = search needs
 
--- src/lib.rt:269:20
 of-book-requires : tie.Need-of-book-requires
 of-book-requires c κs =
     rw (said (c .before .before .before) .keeps) (omega (arith, good (c .before .before .before) .few-variables), omega (arith, good (c .before .before .before) .few-choices))
 
--- src/lib.rt:269:13
 log-of-requires : tie.Need-log-of-requires
 log-of-requires c κs =
     (rw (posed (c .before), priced (c .before .before .before)) (loggable (good (c .before .before .before .before .before))), omega (arith, c .before .before .before .before .if1 .left))
 
--- src/lib.rt:253:1
 returns-2 : tie.Need-returns-2
 returns-2 c = refused-of (book-refused _ (c .before .before .before .read .ensures) (c .before .verdict .given .1))
 
--- src/lib.rt:253:1
 same-length : tie.Need-same-length
 same-length c = search needs
 
--- src/lib.rt:253:1
 returns-3 : tie.Need-returns-3
 returns-3 c =
     let w = good (c .before .before .before .before .before .before .before .before) in

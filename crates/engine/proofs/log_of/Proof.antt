@@ -9,36 +9,29 @@ use Rattle.engine.proofs.log_of.Lts as lts
 use Rattle.engine.proofs.propagate.Reads as propagate-reads
 use Rattle.engine.proofs.write_log.Reads as write-log-reads
 
--- src/lib.rt:280:11
 propagate-requires : tie.Need-propagate-requires
 propagate-requires c κs = c .before .pre .0 .steppable .searchable
 
--- src/lib.rt:281:38
 enum-known-number : tie.Need-enum-known-number
 enum-known-number c = search needs
 
--- src/lib.rt:282:35
 enum-known-forced : tie.Need-enum-known-forced
 enum-known-forced c = search needs
 
--- src/lib.rt:282:46
 write-log-requires : tie.Need-write-log-requires
 write-log-requires c κs =
     let f = found-set _ (c .before .before .before .before .propagate .ensures) (c .before .before .forced .given .1) in
     (rw (f .1) (logging-of _ _ (c .before .before .before .before .before .before .pre .0) (f .0)), c .before .before .before .before .before .before .pre .1)
 
--- src/lib.rt:275:1
 returns : tie.Need-returns
 unfolding logIn
 returns c =
     let n = found-nine _ (c .before .before .before .propagate .ensures) (c .before .number .given .1) in
     rw (n .2, n .0, n .1) (logged-refused 9 0 _)
 
--- src/lib.rt:275:1
 same-length : tie.Need-same-length
 same-length c = search needs
 
--- src/lib.rt:275:1
 returns-2 : tie.Need-returns-2
 unfolding logIn
 returns-2 c =

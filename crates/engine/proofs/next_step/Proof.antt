@@ -34,37 +34,29 @@ priced : (c : tie.After-read-costs) → c .read-costs .result ≡ table (said (c
 unfolding tableAnswer
 priced c = c .read-costs .ensures ∙ ap (tableAnswer (λ b. b .costs)) (said (c .before) .said)
 
--- src/lib.rt:150:9
 read-requires : tie.Need-read-requires
 read-requires c κs = search needs
 
--- src/lib.rt:153:34
 enum-known-verdict : tie.Need-enum-known-verdict
 enum-known-verdict c = search needs
 
--- src/lib.rt:155:17
 enum-told : tie.Need-enum-told
 enum-told c = search needs
 
--- src/lib.rt:155:17
 read-costs-requires : tie.Need-read-costs-requires
 read-costs-requires c κs = search needs
 
--- src/lib.rt:161:21
 of-book-requires : tie.Need-of-book-requires
 of-book-requires c κs =
     rw (said (c .before .before) .keeps) (omega (arith, good (c .before .before) .few-variables), omega (arith, good (c .before .before) .few-choices))
 
--- src/lib.rt:161:13
 step-of-requires : tie.Need-step-of-requires
 step-of-requires c κs = rw (posed c, priced (c .before .before)) (steppable (good (c .before .before .before)))
 
--- src/lib.rt:147:1
 returns : tie.Need-returns
 unfolding stepAnswer withModel
 returns c = step-call (rw (book-refused _ (c .before .before .before .read .ensures) (c .before .verdict .given .1)) refl)
 
--- src/lib.rt:147:1
 returns-2 : tie.Need-returns-2
 returns-2 c =
     step-call (rw (said (c .before .before .before .before) .said) ((rw (posed (c .before), priced (c .before .before .before)) at (c .step-of .ensures)) ∙ step-says (good (c .before .before .before .before)) (said (c .before .before .before .before) .end) _ _))

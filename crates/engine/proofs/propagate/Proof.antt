@@ -9,39 +9,30 @@ use Rattle.engine.proofs.propagate.Reads as reads
 use Rattle.engine.proofs.propagate.Lts as lts
 use Rattle.consequence.proofs.propagate.Reads as propagate-reads
 
--- src/lib.rt:108:47
 array-share-prefix-yes : tie.Need-array-share-prefix-yes
 array-share-prefix-yes c = search needs
 
--- src/lib.rt:108:47
 slice-aggregate-propagate : tie.Need-slice-aggregate-propagate
 slice-aggregate-propagate c = sym (length-take-le _ _ (omega (arith, c .before .before .before .pre .few-rules, c .before .before .before .pre .yes-room)))
 
--- src/lib.rt:108:62
 array-share-prefix-no : tie.Need-array-share-prefix-no
 array-share-prefix-no c = search needs
 
--- src/lib.rt:108:62
 slice-aggregate-propagate-2 : tie.Need-slice-aggregate-propagate-2
 slice-aggregate-propagate-2 c = sym (length-take-le _ _ (omega (arith, c .before .before .before .before .pre .few-rules, c .before .before .before .before .pre .no-room)))
 
--- src/lib.rt:108:11
 propagate-requires : tie.Need-propagate-requires
 propagate-requires c κs = (c .before .before .before .before .pre .posed, (omega (arith, length-take-le (c .before .before .before .before .args .p .rules) (c .before .before .before .before .args .p .yes) (omega (arith, c .before .before .before .before .pre .few-rules, c .before .before .before .before .pre .yes-room)), c .before .before .before .before .pre .few-rules), c .before .before .before .before .pre .choices-below))
 
--- src/lib.rt:109:29
 enum-known-set : tie.Need-enum-known-set
 enum-known-set c = search needs
 
--- src/lib.rt:110:33
 enum-told : tie.Need-enum-told
 enum-told c = search needs
 
--- src/lib.rt:97:1
 returns : tie.Need-returns
 returns c = forced-found _ (c .before .before .before .propagate .ensures) (c .before .set .given .1)
 
--- src/lib.rt:97:1
 returns-2 : tie.Need-returns-2
 returns-2 c = none-found _ (c .before .before .propagate .ensures) (c .enum-told .given .1)
 

@@ -9,39 +9,30 @@ use Rattle.engine.proofs.search_model.Reads as reads
 use Rattle.engine.proofs.search_model.Lts as lts
 use Rattle.sat.proofs.search.Reads as search-reads
 
--- src/lib.rt:71:36
 array-share-prefix-yes : tie.Need-array-share-prefix-yes
 array-share-prefix-yes c = search needs
 
--- src/lib.rt:71:36
 slice-aggregate-search : tie.Need-slice-aggregate-search
 slice-aggregate-search c = sym (length-take-le _ _ (omega (arith, c .before .before .before .pre .few-rules, c .before .before .before .pre .yes-room)))
 
--- src/lib.rt:71:51
 array-share-prefix-no : tie.Need-array-share-prefix-no
 array-share-prefix-no c = search needs
 
--- src/lib.rt:71:51
 slice-aggregate-search-2 : tie.Need-slice-aggregate-search-2
 slice-aggregate-search-2 c = sym (length-take-le _ _ (omega (arith, c .before .before .before .before .pre .few-rules, c .before .before .before .before .pre .no-room)))
 
--- src/lib.rt:71:11
 search-requires : tie.Need-search-requires
 search-requires c κs = search needs
 
--- src/lib.rt:72:29
 enum-known-m : tie.Need-enum-known-m
 enum-known-m c = search needs
 
--- src/lib.rt:73:34
 enum-told : tie.Need-enum-told
 enum-told c = search needs
 
--- src/lib.rt:60:1
 returns : tie.Need-returns
 returns c = record { said = searched-first (c .before .before .before .search .ensures) (c .before .m .given .1) .model }
 
--- src/lib.rt:60:1
 returns-2 : tie.Need-returns-2
 returns-2 c = record { said = (refl, refl, searched-none (c .before .before .search .ensures) (c .enum-told .given .1)) }
 

@@ -16,23 +16,18 @@ use Rattle.engine.proofs.take_step.Reads as take-step-reads
 found : (c : tie.After-known-told2) → (contradicts (theoryIn (c .before .before .before .before .args .p)) (c .before .before .before .before .args .p .facts .yes) (c .before .before .before .before .args .p .facts .no) ≡ false) × (c .before .forced .given .0 .0 ≡ forcedIn (c .before .before .before .before .args .p))
 found c = found-set _ (c .before .before .before .propagate .ensures) (c .before .forced .given .1)
 
--- src/lib.rt:187:11
 propagate-requires : tie.Need-propagate-requires
 propagate-requires c κs = c .pre .searchable
 
--- src/lib.rt:188:38
 enum-known-number : tie.Need-enum-known-number
 enum-known-number c = search needs
 
--- src/lib.rt:189:35
 enum-known-forced : tie.Need-enum-known-forced
 enum-known-forced c = search needs
 
--- src/lib.rt:190:17
 lies-between-requires : tie.Need-lies-between-requires
 lies-between-requires c κs = search needs
 
--- src/lib.rt:191:17
 returns : tie.Need-returns
 unfolding stepIn
 returns c =
@@ -40,20 +35,17 @@ returns c =
     let t = (rw (f .1) at (c .before .lies-between .ensures)) in
     rw (f .0, flag-no t (c .if1 .taken)) refl
 
--- src/lib.rt:196:13
 take-step-requires : tie.Need-take-step-requires
 take-step-requires c κs =
     let f = found (c .before .before) in
     rw (f .1) (stepping _ _ (c .before .before .before .before .before .before .pre) (f .0) _ (flag-yes (rw (f .1) at (c .before .lies-between .ensures)) (c .if1 .left)))
 
--- src/lib.rt:183:1
 returns-2 : tie.Need-returns-2
 unfolding stepIn
 returns-2 c =
     let n = found-nine _ (c .before .before .before .propagate .ensures) (c .before .number .given .1) in
     rw (n .2, n .0, n .1) refl
 
--- src/lib.rt:183:1
 returns-3 : tie.Need-returns-3
 unfolding stepIn
 returns-3 c =

@@ -11,48 +11,37 @@ use Rattle.engine.proofs.take_step.Reads as reads
 use Rattle.engine.proofs.take_step.Lts as lts
 use Rattle.step.proofs.next_step.Reads as next-step-reads
 
--- src/lib.rt:209:40
 array-share-prefix-yes : tie.Need-array-share-prefix-yes
 array-share-prefix-yes c = search needs
 
--- src/lib.rt:209:40
 slice-aggregate-next-step : tie.Need-slice-aggregate-next-step
 slice-aggregate-next-step c = sym (length-take-le _ _ (omega (arith, c .before .before .before .pre .searchable .few-rules, c .before .before .before .pre .searchable .yes-room)))
 
--- src/lib.rt:209:55
 array-share-prefix-no : tie.Need-array-share-prefix-no
 array-share-prefix-no c = search needs
 
--- src/lib.rt:209:55
 slice-aggregate-next-step-2 : tie.Need-slice-aggregate-next-step-2
 slice-aggregate-next-step-2 c = sym (length-take-le _ _ (omega (arith, c .before .before .before .before .pre .searchable .few-rules, c .before .before .before .before .pre .searchable .no-room)))
 
--- src/lib.rt:209:11
 next-step-requires : tie.Need-next-step-requires
 next-step-requires c κs = search needs
 
--- src/lib.rt:211:13
 enum-known-goal : tie.Need-enum-known-goal
 enum-known-goal c = search needs
 
--- src/lib.rt:221:30
 enum-told : tie.Need-enum-told
 enum-told c = search needs
 
--- src/lib.rt:222:30
 enum-told-2 : tie.Need-enum-told-2
 enum-told-2 c = search needs
 
--- src/lib.rt:202:1
 returns : tie.Need-returns
 returns c =
     rw (toZ-ofZ {w = w8} (record { sfits = c .known-told .given .0 .1 })) (says-step _ (c .before .before .before .next-step .ensures) (c .before .goal .given .1))
 
--- src/lib.rt:202:1
 returns-2 : tie.Need-returns-2
 returns-2 c = says-nothing _ (c .before .before .next-step .ensures) (c .enum-told .given .1)
 
--- src/lib.rt:202:1
 returns-3 : tie.Need-returns-3
 returns-3 c = says-none _ (c .before .before .next-step .ensures) (c .enum-told2 .given .1)
 

@@ -9,47 +9,36 @@ use Rattle.engine.proofs.write_log.Reads as reads
 use Rattle.engine.proofs.write_log.Lts as lts
 use Rattle.log.proofs.write.Reads as write-reads
 
--- src/lib.rt:302:9
 array-share-prefix-yes : tie.Need-array-share-prefix-yes
 array-share-prefix-yes c = search needs
 
--- src/lib.rt:302:9
 slice-aggregate-write : tie.Need-slice-aggregate-write
 slice-aggregate-write c = sym (length-take-le _ _ (omega (arith, c .before .before .before .before .pre .0 .searchable .few-rules, c .before .before .before .before .pre .0 .searchable .yes-room)))
 
--- src/lib.rt:303:9
 array-share-prefix-no : tie.Need-array-share-prefix-no
 array-share-prefix-no c = search needs
 
--- src/lib.rt:303:9
 slice-aggregate-write-2 : tie.Need-slice-aggregate-write-2
 slice-aggregate-write-2 c = sym (length-take-le _ _ (omega (arith, c .before .before .before .before .before .pre .0 .searchable .few-rules, c .before .before .before .before .before .pre .0 .searchable .no-room)))
 
--- src/lib.rt:300:11
 write-requires : tie.Need-write-requires
 write-requires c κs = search needs
 
--- src/lib.rt:311:13
-enum-known-length : tie.Need-enum-known-length
-enum-known-length c = search needs
+enum-known-size : tie.Need-enum-known-size
+enum-known-size c = search needs
 
--- src/lib.rt:319:27
 enum-told : tie.Need-enum-told
 enum-told c = search needs
 
--- src/lib.rt:287:1
 same-length : tie.Need-same-length
 same-length c = search needs
 
--- src/lib.rt:287:1
 returns : tie.Need-returns
-returns c = written-log _ (c .before .before .before .before .before .write .ensures) (c .before .length .given .1)
+returns c = written-log _ (c .before .before .before .before .before .write .ensures) (c .before .size .given .1)
 
--- src/lib.rt:287:1
 same-length-2 : tie.Need-same-length-2
 same-length-2 c = search needs
 
--- src/lib.rt:287:1
 returns-2 : tie.Need-returns-2
 returns-2 c = written-stuck _ (c .before .before .before .before .write .ensures) (c .enum-told .given .1)
 
@@ -62,7 +51,7 @@ write-log-spec =
     array-share-prefix-no
     slice-aggregate-write-2
     write-requires
-    enum-known-length
+    enum-known-size
     enum-told
     same-length
     returns

@@ -51,59 +51,45 @@ stored c = rw (byte (c .before .before)) at (c .put-step .ensures)
 no-step : (c : tie.At-match-keys2 Inv-loop μ-loop) (g : ℤ) (x y : LiteralSet) (k : ℕ) → c .before .next-step .result ≡ Next.Step g x y k → ⊥
 no-step c g x y k e = miss (1 ∷ 2 ∷ []) 0 tt (rw e at (c .match .keys2))
 
--- src/lib.rt:161:5
 loop-holds : tie.Need-loop-holds Inv-loop μ-loop
 loop-holds c = (c .before .before .pre, logging-none (c .before .before .pre))
 
--- src/lib.rt:162:13
 next-step-requires : tie.Need-next-step-requires Inv-loop μ-loop
 next-step-requires c κs = c .loop .inv .1 .asked
 
--- src/lib.rt:164:13
 enum-known-next : tie.Need-enum-known-next Inv-loop μ-loop
 enum-known-next c = search needs
 
--- src/lib.rt:170:13
 ended-requires : tie.Need-ended-requires Inv-loop μ-loop
 ended-requires c κs = end-room _ (c .before .before .loop .inv .1)
 
--- src/lib.rt:170:13
 returns : tie.Need-returns Inv-loop μ-loop
 returns c = logging-ended _ (c .before .before .before .loop .inv .1) _ _ (c .before .before .next-step .ensures) (no-step (c .before)) (c .ended .ensures)
 
--- src/lib.rt:172:23
 slice-aggregate-put-step : tie.Need-slice-aggregate-put-step Inv-loop μ-loop
 slice-aggregate-put-step c = sym (bytes-room _ (c .before .before .before .before .before .loop .inv .1))
 
--- src/lib.rt:172:9
 put-step-requires : tie.Need-put-step-requires Inv-loop μ-loop
 put-step-requires c κs = rw (byte (c .before)) (logging-room _ (c .before .before .before .before .before .loop .inv .1) (told (c .before)))
 
--- src/lib.rt:174:18
 union-requires : tie.Need-union-requires Inv-loop μ-loop
 union-requires c κs = search needs
 
--- src/lib.rt:175:17
 union-requires-2 : tie.Need-union-requires-2 Inv-loop μ-loop
 union-requires-2 c κs = search needs
 
--- src/lib.rt:177:9
 add-steps : tie.Need-add-steps Inv-loop μ-loop
 add-steps c = omega (arith, step-open _ (c .before .before .before .before .before .before .before .before .before .loop .inv .1) (told (c .before .before .before .before .before)))
 
--- src/lib.rt:178:18
 cast-total : tie.Need-cast-total Inv-loop μ-loop
 cast-total c = omega (arith, c .before .before .before .before .before .known-told .given)
 
--- src/lib.rt:178:9
 add-total : tie.Need-add-total Inv-loop μ-loop
 add-total c = omega (arith, c .before .before .before .before .before .known-told .given, c .before .before .before .before .before .before .before .before .before .loop .inv .1 .cheap, step-open _ (c .before .before .before .before .before .before .before .before .before .loop .inv .1) (told (c .before .before .before .before .before)))
 
--- src/lib.rt:161:5
 loop-less : tie.Need-loop-less Inv-loop μ-loop
 loop-less c = rw (c .before .union .ensures, c .union2 .ensures) (goals-fewer (c .before .before .before .before .before .before .before .before .before .loop .inv .0) (c .before .before .before .before .before .before .before .before .before .loop .inv .1 .asked) (told (c .before .before .before .before .before)))
 
--- src/lib.rt:161:5
 loop-again : tie.Need-loop-again Inv-loop μ-loop
 loop-again c = (
   c .before .before .before .before .before .before .before .before .before .loop .inv .0,

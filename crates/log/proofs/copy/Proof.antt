@@ -14,36 +14,28 @@ Inv-loop buffer₀ count bytes i₀ buffer i = Copying buffer₀ bytes buffer i 
 abbrev μ-loop : tie.MeasureT-loop
 μ-loop buffer₀ count bytes i₀ buffer i = count - i
 
--- src/lib.rt:189:5
 loop-holds : tie.Need-loop-holds Inv-loop μ-loop
 loop-holds c = (copying-none _ _, omega arith)
 
--- src/lib.rt:190:21
 array-read-buffer : tie.Need-array-read-buffer Inv-loop μ-loop
 array-read-buffer c = search needs
 
--- src/lib.rt:190:9
 slice-write-buffer : tie.Need-slice-write-buffer Inv-loop μ-loop
 slice-write-buffer c =
     omega (arith, copying-length _ _ (c .before .loop .inv .0) (omega (arith, c .before .before .pre .0, c .before .before .pre .1 .0)) (omega (arith, c .before .before .pre .0, c .before .before .pre .1 .1)), c .before .before .pre .0, c .before .before .pre .1 .1)
 
--- src/lib.rt:191:9
 add-i : tie.Need-add-i Inv-loop μ-loop
 add-i c = search needs
 
--- src/lib.rt:189:5
 loop-less : tie.Need-loop-less Inv-loop μ-loop
 loop-less c = search needs
 
--- src/lib.rt:189:5
 loop-again : tie.Need-loop-again Inv-loop μ-loop
 loop-again c = (copying-more _ _ (c .before .loop .inv .0) (omega (arith, c .before .before .pre .0, c .before .before .pre .1 .0)) (omega (arith, c .before .before .pre .0, c .before .before .pre .1 .1)), omega arith)
 
--- src/lib.rt:183:1
 same-length : tie.Need-same-length Inv-loop μ-loop
 same-length c = copying-length _ _ (c .before .loop .inv .0) (omega (arith, c .before .before .pre .0, c .before .before .pre .1 .0)) (omega (arith, c .before .before .pre .0, c .before .before .pre .1 .1))
 
--- src/lib.rt:183:1
 returns : tie.Need-returns Inv-loop μ-loop
 returns c = let end : c .before .loop .i ≡ c .before .before .args .count = omega arith in rw end at (c .before .loop .inv .0 .copied)
 

@@ -7,43 +7,33 @@ use Rattle.log.proofs.ended.Lts as lts
 use Rattle.log.proofs.put_ok.Reads as put-ok-reads
 use Rattle.log.proofs.stopped.Reads as stopped-reads
 
--- src/lib.rt:138:33
 enum-told : tie.Need-enum-told
 enum-told c = search needs
 
--- src/lib.rt:138:33
 slice-aggregate-put-ok : tie.Need-slice-aggregate-put-ok
 slice-aggregate-put-ok c = search needs
 
--- src/lib.rt:138:17
 put-ok-requires : tie.Need-put-ok-requires
 put-ok-requires c κs = c .before .before .before .pre
 
--- src/lib.rt:147:38
 enum-told-2 : tie.Need-enum-told-2
 enum-told-2 c = search needs
 
--- src/lib.rt:147:30
 stopped-requires : tie.Need-stopped-requires
 stopped-requires c κs = search needs
 
--- src/lib.rt:153:22
 enum-told-3 : tie.Need-enum-told-3
 enum-told-3 c = search needs
 
--- src/lib.rt:153:14
 stopped-requires-2 : tie.Need-stopped-requires-2
 stopped-requires-2 c κs = search needs
 
--- src/lib.rt:131:1
 returns : tie.Need-returns
 returns c = ended-ok _ _ _ _ _ _ _ (c .before .before .before .enum-told .given .1) (c .before .put-ok .ensures)
 
--- src/lib.rt:131:1
 returns-2 : tie.Need-returns-2
 returns-2 c = ended-none _ _ _ _ _ _ (c .before .enum-told2 .given .1) (c .stopped .ensures)
 
--- src/lib.rt:131:1
 returns-3 : tie.Need-returns-3
 returns-3 c = ended-step _ _ _ _ _ _ (c .before .enum-told3 .given .1) (c .stopped2 .ensures)
 

@@ -10,32 +10,25 @@ use Rattle.log.proofs.member_byte.Reads as reads
 use Rattle.log.proofs.member_byte.Lts as lts
 use Rattle.sets.proofs.has.Reads as has-reads
 
--- src/lib.rt:17:8
 has-requires : tie.Need-has-requires
 has-requires c κs = search needs
 
--- src/lib.rt:18:10
 add-result : tie.Need-add-result
 add-result c = search needs
 
--- src/lib.rt:18:9
 cast-result : tie.Need-cast-result
 cast-result c = search needs
 
--- src/lib.rt:20:10
 sub-result : tie.Need-sub-result
 sub-result c = search needs
 
--- src/lib.rt:20:9
 cast-result-2 : tie.Need-cast-result-2
 cast-result-2 c = search needs
 
--- src/lib.rt:13:1
 returns : tie.Need-returns
 unfolding byteOf
 returns c = let t : has (c .before .before .args .set .yes) (c .before .before .args .v) ≡ true = sym (c .before .has .ensures) ∙ c .if1 .taken in rw t (add-one _)
 
--- src/lib.rt:13:1
 returns-2 : tie.Need-returns-2
 unfolding byteOf
 returns-2 c = let t : has (c .before .before .args .set .yes) (c .before .before .args .v) ≡ false = sym (c .before .has .ensures) ∙ c .if1 .left in rw t refl

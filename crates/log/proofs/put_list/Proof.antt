@@ -41,64 +41,49 @@ fits : (c : tie.After-count Inv-loop μ-loop)
 fits c =
     omega (arith, room c, length-set (now (c .before .before .before .args .out)) (c .before .before .before .args .at) (c .count .result), ap (λ m. length (members m)) (whole c), members-count _ (below c))
 
--- src/lib.rt:29:9
 union-requires : tie.Need-union-requires Inv-loop μ-loop
 union-requires c κs = search needs
 
--- src/lib.rt:30:15
 count-requires : tie.Need-count-requires Inv-loop μ-loop
 count-requires c κs = search needs
 
--- src/lib.rt:30:15
 cast-out : tie.Need-cast-out Inv-loop μ-loop
 cast-out c = omega (arith, c .count .ensures .within)
 
--- src/lib.rt:30:5
 slice-write-out : tie.Need-slice-write-out Inv-loop μ-loop
 slice-write-out c = omega (arith, room c)
 
--- src/lib.rt:32:17
 add-i : tie.Need-add-i Inv-loop μ-loop
 add-i c = omega (arith, room c, c .before .before .before .good)
 
--- src/lib.rt:33:5
 loop-holds : tie.Need-loop-holds Inv-loop μ-loop
 loop-holds c = listing-none _ _ _ _ (c .before .union .ok)
 
--- src/lib.rt:34:13
 lowest-requires : tie.Need-lowest-requires Inv-loop μ-loop
 lowest-requires c κs = omega (arith, c .loop-test .taken)
 
--- src/lib.rt:35:18
 member-byte-requires : tie.Need-member-byte-requires Inv-loop μ-loop
 member-byte-requires c κs = c .lowest .ensures .within
 
--- src/lib.rt:35:9
 slice-write-out-2 : tie.Need-slice-write-out-2 Inv-loop μ-loop
 slice-write-out-2 c = listing-room _ _ _ _ (c .before .before .before .loop .inv) (c .before .lowest .ensures) (fits (c .before .before .before .before))
 
--- src/lib.rt:36:9
 remove-requires : tie.Need-remove-requires Inv-loop μ-loop
 remove-requires c κs = c .before .lowest .ensures .within
 
--- src/lib.rt:37:9
 add-i-2 : tie.Need-add-i-2 Inv-loop μ-loop
 add-i-2 c =
     omega (arith, listing-room _ _ _ _ (c .before .before .before .before .loop .inv) (c .before .before .lowest .ensures) (fits (c .before .before .before .before .before)), put-length _ (c .before .before .before .before .loop .inv .put), length-set (now (c .before .before .before .before .before .before .before .before .args .out)) (c .before .before .before .before .before .before .before .before .args .at) (c .before .before .before .before .before .count .result), c .before .before .before .before .before .before .before .before .good)
 
--- src/lib.rt:33:5
 loop-less : tie.Need-loop-less Inv-loop μ-loop
 loop-less c = rw (c .remove .ensures) (listing-less _ _ _ _ (c .before .before .before .before .loop .inv) (c .before .before .lowest .ensures))
 
--- src/lib.rt:33:5
 loop-again : tie.Need-loop-again Inv-loop μ-loop
 loop-again c = rw (c .remove .ensures) (listing-more _ _ _ _ (c .before .before .before .before .loop .inv) (c .before .before .lowest .ensures) (c .before .member-byte .ensures))
 
--- src/lib.rt:25:1
 same-length : tie.Need-same-length Inv-loop μ-loop
 same-length c = put-length _ (c .before .loop .inv .put) ∙ length-set (now (c .before .before .before .before .before .args .out)) (c .before .before .before .before .before .args .at) (c .before .before .count .result)
 
--- src/lib.rt:25:1
 returns : tie.Need-returns Inv-loop μ-loop
 returns c =
     listed _ _ _ _ _ _ (rw (c .before .before .count .ensures .counts, whole (c .before .before)) at (listing-all _ _ _ _ (c .before .loop .inv) (c .loop-test .left)))

@@ -16,35 +16,27 @@ use Rattle.log.proofs.put_two.Reads as put-two-reads
 marked : (c : tie.After-put-two) → Put (now (c .before .before .before .args .out)) (c .before .before .before .args .at) OK (c .put-two .last .0) (c .put-two .result)
 marked c = c .put-two .ensures
 
--- src/lib.rt:89:35
 array-read-put-two : tie.Need-array-read-put-two
 array-read-put-two c = search needs
 
--- src/lib.rt:89:42
 array-read-put-two-2 : tie.Need-array-read-put-two-2
 array-read-put-two-2 c = search needs
 
--- src/lib.rt:89:9
 put-two-requires : tie.Need-put-two-requires
 put-two-requires c κs = omega (arith, c .before .before .pre, ok-length (c .before .before .args .steps) (c .before .before .args .total))
 
--- src/lib.rt:90:5
 slice-write-out : tie.Need-slice-write-out
 slice-write-out c = omega (arith, c .before .before .before .before .before .pre, ok-length (c .before .before .before .before .before .args .steps) (c .before .before .before .before .before .args .total), marked (c .before .before) .place, put-length OK (marked (c .before .before)))
 
--- src/lib.rt:91:19
 add-put-four : tie.Need-add-put-four
 add-put-four c = search needs
 
--- src/lib.rt:91:5
 put-four-requires : tie.Need-put-four-requires
 put-four-requires c κs = simp length-set (omega (arith, c .before .before .before .before .before .before .pre, ok-length (c .before .before .before .before .before .before .args .steps) (c .before .before .before .before .before .before .args .total), marked (c .before .before .before) .place, put-length OK (marked (c .before .before .before))))
 
--- src/lib.rt:85:1
 same-length : tie.Need-same-length
 same-length c = put-length _ (ok-put _ _ (marked (c .before .before .before .before .before .before)) (c .before .before .put-four .ensures))
 
--- src/lib.rt:85:1
 returns : tie.Need-returns
 returns c = ok-put _ _ (marked (c .before .before .before .before .before .before)) (c .before .before .put-four .ensures)
 

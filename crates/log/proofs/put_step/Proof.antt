@@ -32,55 +32,42 @@ reasoned c = put-append (upToGoal (putStep (c .before .before .before .before .b
 renewed : (c : tie.After-put-list2) → Put (now (c .before .before .before .before .before .before .before .before .before .before .before .before .args .out)) (c .before .before .before .before .before .before .before .before .before .before .before .before .args .at) (upToNew (putStep (c .before .before .before .before .before .before .before .before .before .before .before .before .args .goal) (c .before .before .before .before .before .before .before .before .before .before .before .before .args .reasons) (c .before .before .before .before .before .before .before .before .before .before .before .before .args .new) (c .before .before .before .before .before .before .before .before .before .before .before .before .args .cost))) (c .put-list2 .last .0) (c .put-list2 .result)
 renewed c = put-append (upToReasons (putStep (c .before .before .before .before .before .before .before .before .before .before .before .before .args .goal) (c .before .before .before .before .before .before .before .before .before .before .before .before .args .reasons) (c .before .before .before .before .before .before .before .before .before .before .before .before .args .new) (c .before .before .before .before .before .before .before .before .before .before .before .before .args .cost))) (listBytes (literalsOf (c .before .before .before .before .before .before .before .before .before .before .before .before .args .new .yes) (c .before .before .before .before .before .before .before .before .before .before .before .before .args .new .no))) (reasoned (c .before .before .before .before)) (c .put-list2 .ensures)
 
--- src/lib.rt:77:35
 array-read-put-two : tie.Need-array-read-put-two
 array-read-put-two c = search needs
 
--- src/lib.rt:77:42
 array-read-put-two-2 : tie.Need-array-read-put-two-2
 array-read-put-two-2 c = search needs
 
--- src/lib.rt:77:9
 put-two-requires : tie.Need-put-two-requires
 put-two-requires c κs = omega (arith, c .before .before .pre, step-length (putStep (c .before .before .args .goal) (c .before .before .args .reasons) (c .before .before .args .new) (c .before .before .args .cost)))
 
--- src/lib.rt:78:19
 to-byte-requires : tie.Need-to-byte-requires
 to-byte-requires c κs = search needs
 
--- src/lib.rt:78:5
 slice-write-out : tie.Need-slice-write-out
 slice-write-out c = omega (arith, goal-room _ _ (putStep (c .before .before .before .before .before .before .args .goal) (c .before .before .before .before .before .before .args .reasons) (c .before .before .before .before .before .before .args .new) (c .before .before .before .before .before .before .args .cost)) (c .before .before .before .before .before .before .pre) (marked (c .before .before .before)))
 
--- src/lib.rt:79:34
 add-put-list : tie.Need-add-put-list
 add-put-list c = search needs
 
--- src/lib.rt:79:9
 put-list-requires : tie.Need-put-list-requires
 put-list-requires c κs = reasons-room _ _ (putStep (c .before .before .before .before .before .before .before .args .goal) (c .before .before .before .before .before .before .before .args .reasons) (c .before .before .before .before .before .before .before .args .new) (c .before .before .before .before .before .before .before .args .cost)) (c .before .before .before .before .before .before .before .pre) (aimed (c .before))
 
--- src/lib.rt:80:9
 put-list-requires-2 : tie.Need-put-list-requires-2
 put-list-requires-2 c κs = new-room _ _ (putStep (c .before .before .before .before .before .before .before .before .before .before .before .args .goal) (c .before .before .before .before .before .before .before .before .before .before .before .args .reasons) (c .before .before .before .before .before .before .before .before .before .before .before .args .new) (c .before .before .before .before .before .before .before .before .before .before .before .args .cost)) (c .before .before .before .before .before .before .before .before .before .before .before .pre) (reasoned (c .before .before .before))
 
--- src/lib.rt:81:26
 cast-put-two : tie.Need-cast-put-two
 cast-put-two c = search needs
 
--- src/lib.rt:81:52
 cast-put-two-2 : tie.Need-cast-put-two-2
 cast-put-two-2 c = search needs
 
--- src/lib.rt:81:5
 put-two-requires-2 : tie.Need-put-two-requires-2
 put-two-requires-2 c κs = cost-room _ _ (putStep (c .before .before .before .before .before .before .before .before .before .before .before .before .before .before .before .args .goal) (c .before .before .before .before .before .before .before .before .before .before .before .before .before .before .before .args .reasons) (c .before .before .before .before .before .before .before .before .before .before .before .before .before .before .before .args .new) (c .before .before .before .before .before .before .before .before .before .before .before .before .before .before .before .args .cost)) (c .before .before .before .before .before .before .before .before .before .before .before .before .before .before .before .pre) (renewed (c .before .before .before))
 
--- src/lib.rt:66:1
 same-length : tie.Need-same-length
 same-length c = put-length _ (step-put (putStep (c .before .before .before .before .before .before .before .before .before .before .before .before .before .before .before .before .before .before .args .goal) (c .before .before .before .before .before .before .before .before .before .before .before .before .before .before .before .before .before .before .args .reasons) (c .before .before .before .before .before .before .before .before .before .before .before .before .before .before .before .before .before .before .args .new) (c .before .before .before .before .before .before .before .before .before .before .before .before .before .before .before .before .before .before .args .cost)) (renewed (c .before .before .before .before .before .before)) (c .before .before .put-two2 .ensures))
 
--- src/lib.rt:66:1
 returns : tie.Need-returns
 returns c = step-put (putStep (c .before .before .before .before .before .before .before .before .before .before .before .before .before .before .before .before .before .before .args .goal) (c .before .before .before .before .before .before .before .before .before .before .before .before .before .before .before .before .before .before .args .reasons) (c .before .before .before .before .before .before .before .before .before .before .before .before .before .before .before .before .before .before .args .new) (c .before .before .before .before .before .before .before .before .before .before .before .before .before .before .before .before .before .before .args .cost)) (renewed (c .before .before .before .before .before .before)) (c .before .before .put-two2 .ensures)
 

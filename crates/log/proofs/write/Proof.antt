@@ -7,23 +7,18 @@ use Rattle.log.proofs.write.Lts as lts
 use Rattle.log.proofs.build.Reads as build-reads
 use Rattle.log.proofs.copy.Reads as copy-reads
 
--- src/lib.rt:224:9
 build-requires : tie.Need-build-requires
 build-requires c κs = search needs
 
--- src/lib.rt:226:9
 returns : tie.Need-returns
 returns c = written-stuck _ _ _ (c .before .build .ensures) (c .if1 .taken)
 
--- src/lib.rt:230:5
 copy-requires : tie.Need-copy-requires
 copy-requires c κs = (built-short _ _ (c .before .before .before .build .ensures) (c .before .before .if1 .left), (built-room _ _ (c .before .before .before .build .ensures) (c .before .before .if1 .left), c .before .before .before .before .before .before .before .pre .1))
 
--- src/lib.rt:210:1
 same-length : tie.Need-same-length
 same-length c = search needs
 
--- src/lib.rt:210:1
 returns-2 : tie.Need-returns-2
 returns-2 c = written-log _ _ _ _ (c .before .before .before .before .before .before .build .ensures) (c .before .before .before .before .before .if1 .left) (c .before .before .copy .ensures)
 

@@ -14,7 +14,7 @@ use Rattle.literals.specs.declared.LiteralSet.{LiteralSet}
 use Rattle.consequence.specs.Meaning.{Theory, contradicts, yesForced, noForced, ModelOf}
 use Rattle.consequence.specs.Laws.Forcing.{Exactly, yes-exactly, no-exactly, forced-model, contradicts-not}
 use Rattle.step.specs.Meaning.{Question, asking, Step, step, stepOf, goals, yesGoals, noGoals}
-use Rattle.step.specs.IsStep.{Sound, Goal, Gained, IsStep}
+use Rattle.step.specs.IsStep.{Sound, Goal, New, Gained, IsStep}
 use Rattle.step.specs.Theorems.{step-is}
 use Rattle.log.specs.Contracts.{ForcedBy}
 
@@ -50,24 +50,22 @@ module _ {t : Theory} (below : t .choices < 2 ^ t .variables) {c facts : Literal
   pub no-below : c .no < 2 ^ t .variables
   no-below = no-exact .below
 
-  -- a given fact over a choice is forced
-  pub yes-given : Within (facts .yes) (t .choices) → Within (facts .yes) (c .yes)
-  yes-given w = record { keeps = λ v. go v (ℕ-discrete (bit (facts .yes) v) 1) }
+  -- a given fact over a choice is forced: it has its digit in every model
+  given-within : (d m con : ℕ) → Exactly t (facts .yes) (facts .no) d con → ((v f : ℕ) → bit m v ≡ 1 → ModelOf t (facts .yes) (facts .no) f → bit f v ≡ d)
+      → Within m (t .choices) → Within m con
+  given-within d m con x has-digit w = record { keeps = λ v. go v (ℕ-discrete (bit m v) 1) }
     where
-      go : (v : ℕ) → Dec (bit (facts .yes) v ≡ 1) → bit (facts .yes) v ≤ bit (c .yes) v
+      go : (v : ℕ) → Dec (bit m v ≡ 1) → bit m v ≤ bit con v
       go v (yes e) =
           let o : bit (t .choices) v ≡ 1 = omega (arith, e, w .keeps v, bit-le (t .choices) v) in
-          omega (arith, e, yes-exact .complete v (member-lt _ (t .choices) v o below) o (λ f m. omega (arith, e, m .keeps .keeps v, bit-le f v)))
-      go v (no e) = omega (arith, bit-le (facts .yes) v)
+          omega (arith, e, x .complete v (member-lt _ (t .choices) v o below) o (λ f k. has-digit v f e k))
+      go v (no e) = omega (arith, bit-le m v)
+
+  pub yes-given : Within (facts .yes) (t .choices) → Within (facts .yes) (c .yes)
+  yes-given = given-within 1 _ _ yes-exact (λ v f e m. omega (arith, e, m .keeps .keeps v, bit-le f v))
 
   pub no-given : Within (facts .no) (t .choices) → Within (facts .no) (c .no)
-  no-given w = record { keeps = λ v. go v (ℕ-discrete (bit (facts .no) v) 1) }
-    where
-      go : (v : ℕ) → Dec (bit (facts .no) v ≡ 1) → bit (facts .no) v ≤ bit (c .no) v
-      go v (yes e) =
-          let o : bit (t .choices) v ≡ 1 = omega (arith, e, w .keeps v, bit-le (t .choices) v) in
-          omega (arith, e, no-exact .complete v (member-lt _ (t .choices) v o below) o (λ f m. omega (arith, e, m .avoids .avoids v)))
-      go v (no e) = omega (arith, bit-le (facts .no) v)
+  no-given = given-within 0 _ _ no-exact (λ v f e m. omega (arith, e, m .avoids .avoids v))
 
   -- where the given facts do not contradict the rules, a step can be asked for from any known set within what they force
   module _ (some : contradicts t (facts .yes) (facts .no) ≡ false) where
@@ -119,25 +117,21 @@ module _ {t : Theory} {table : List (List ℕ)} {c facts : LiteralSet} (fc : For
       }
 
   -- so the new literals are of the consequence
-  pub new-yes-within : Within (s .new-on) (c .yes)
-  new-yes-within = record { keeps = λ v. go v (ℕ-discrete (bit (s .new-on) v) 1) }
+  new-within : (d known m con : ℕ) → New t (s .reasons-on) (s .reasons-off) d known m → Exactly t (facts .yes) (facts .no) d con → Within m con
+  new-within d known m con n x = record { keeps = λ v. go v (ℕ-discrete (bit m v) 1) }
     where
-      go : (v : ℕ) → Dec (bit (s .new-on) v ≡ 1) → bit (s .new-on) v ≤ bit (c .yes) v
-      go v (no d) = omega (arith, bit-le (s .new-on) v)
-      go v (yes d) =
-          let i = is .new-yes .sound v d in
+      go : (v : ℕ) → Dec (bit m v ≡ 1) → bit m v ≤ bit con v
+      go v (no h) = omega (arith, bit-le m v)
+      go v (yes h) =
+          let i = n .sound v h in
           let l : v < t .variables = member-lt _ (t .choices) v (i .0) (a .choices-below) in
-          omega (arith, d, yes-exact (a .choices-below) fc .complete v l (i .0) (λ f m. i .2 f (reasons-model f m)))
+          omega (arith, h, x .complete v l (i .0) (λ f k. i .2 f (reasons-model f k)))
+
+  pub new-yes-within : Within (s .new-on) (c .yes)
+  new-yes-within = new-within 1 _ _ _ (is .new-yes) (yes-exact (a .choices-below) fc)
 
   pub new-no-within : Within (s .new-off) (c .no)
-  new-no-within = record { keeps = λ v. go v (ℕ-discrete (bit (s .new-off) v) 1) }
-    where
-      go : (v : ℕ) → Dec (bit (s .new-off) v ≡ 1) → bit (s .new-off) v ≤ bit (c .no) v
-      go v (no d) = omega (arith, bit-le (s .new-off) v)
-      go v (yes d) =
-          let i = is .new-no .sound v d in
-          let l : v < t .variables = member-lt _ (t .choices) v (i .0) (a .choices-below) in
-          omega (arith, d, no-exact (a .choices-below) fc .complete v l (i .0) (λ f m. i .2 f (reasons-model f m)))
+  new-no-within = new-within 0 _ _ _ (is .new-no) (no-exact (a .choices-below) fc)
 
   -- what is known next
   more : LiteralSet

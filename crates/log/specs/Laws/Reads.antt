@@ -17,6 +17,7 @@ use Rattle.sets.specs.Sets.{has}
 use Rattle.sets.specs.Laws.Bits.{member-lt}
 use Rattle.sets.specs.Laws.Subset.{has-true}
 use Rattle.literals.specs.Literal.{Literal, variable, ofByte, byteOf}
+use Rattle.sat.specs.Laws.Rules.{and-both}
 use Rattle.log.specs.Format.{StepRecord, Log, ST, OK, twoBytes, fourBytes, listBytes, recordBytes, recordsBytes, okBytes, logBytes, Parsed, parsed, malformed, andParse, parseBytes, begins, risingOver, parseList, parseRecord, LogRead, isLog, notLog, withRecord, readEnd, readRecords, readLog}
 
 -- ---- what bytes can hold
@@ -44,10 +45,6 @@ pub record InForm (choices : ℕ) (l : Log) : Type 0 where
   pub total-fits : l .total < 4294967296
 
 -- ---- what is written is read back
-
-and-both : (a b : Bool) → a && b ≡ true → (a ≡ true) × (b ≡ true)
-and-both true b e = (refl, e)
-and-both false b e = absurd (false≢true e)
 
 -- a literal's byte is read as the literal
 pub byte-back : (l : Literal) → variable l ≤ 127 → ofByte (byteOf l) ≡ l

@@ -38,20 +38,20 @@ enum-known-number c = search needs
 put-refusal-requires : tie.Need-put-refusal-requires
 put-refusal-requires c κs = search needs
 
-enum-known-length : tie.Need-enum-known-length
-enum-known-length c = search needs
+enum-known-size : tie.Need-enum-known-size
+enum-known-size c = search needs
 
 array-share-prefix-log : tie.Need-array-share-prefix-log
 array-share-prefix-log c =
-    omega (arith, log-short (called (c .before .before .before .before .before)) (c .before .before .length .given .1) (long (c .before .before .before .before .before)), long (c .before .before .before .before .before))
+    omega (arith, log-short (called (c .before .before .before .before .before)) (c .before .before .size .given .1) (long (c .before .before .before .before .before)), long (c .before .before .before .before .before))
 
 slice-aggregate-put-log : tie.Need-slice-aggregate-put-log
 slice-aggregate-put-log c =
-    sym (length-take-le _ _ (omega (arith, log-short (called (c .before .before .before .before .before .before)) (c .before .before .before .length .given .1) (long (c .before .before .before .before .before .before)), long (c .before .before .before .before .before .before))))
+    sym (length-take-le _ _ (omega (arith, log-short (called (c .before .before .before .before .before .before)) (c .before .before .before .size .given .1) (long (c .before .before .before .before .before .before)), long (c .before .before .before .before .before .before))))
 
 put-log-requires : tie.Need-put-log-requires
 put-log-requires c κs =
-    log-printable (called (c .before .before .before .before .before .before)) (c .before .before .before .length .given .1) (long (c .before .before .before .before .before .before)) (c .before .before .before .before .before .before .before .before .if1 .left)
+    log-printable (called (c .before .before .before .before .before .before)) (c .before .before .before .size .given .1) (long (c .before .before .before .before .before .before)) (c .before .before .before .before .before .before .before .before .if1 .left)
 
 same-length : tie.Need-same-length
 same-length c = search needs
@@ -66,7 +66,7 @@ same-length-2 c = search needs
 
 returns-3 : tie.Need-returns-3
 returns-3 c =
-    print-log (called (c .before .before .before .before .before .before .before .before .before)) (c .before .before .before .before .before .before .length .given .1)
+    print-log (called (c .before .before .before .before .before .before .before .before .before)) (c .before .before .before .before .before .before .size .given .1)
     (long (c .before .before .before .before .before .before .before .before .before)) (c .before .before .before .before .before .before .before .before .before .before .before .if1 .left) (c .before .before .put-log .ensures)
 
 pub print-spec : {M : Type 1} → statement M
@@ -78,7 +78,7 @@ print-spec =
     log-requires
     enum-known-number
     put-refusal-requires
-    enum-known-length
+    enum-known-size
     array-share-prefix-log
     slice-aggregate-put-log
     put-log-requires

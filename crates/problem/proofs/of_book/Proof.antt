@@ -7,27 +7,21 @@ use Rattle.problem.proofs.of_book.Lts as lts
 use Rattle.problem.proofs.widened.Reads as widened-reads
 use Rattle.sets.proofs.full.Reads as full-reads
 
--- src/lib.rt:49:20
 cast-t4 : tie.Need-cast-t4
 cast-t4 c = search needs
 
--- src/lib.rt:51:14
 widened-requires : tie.Need-widened-requires
 widened-requires c κs = search needs
 
--- src/lib.rt:52:13
 widened-requires-2 : tie.Need-widened-requires-2
 widened-requires-2 c κs = search needs
 
--- src/lib.rt:53:29
 cast-full : tie.Need-cast-full
 cast-full c = search needs
 
--- src/lib.rt:53:18
 full-requires : tie.Need-full-requires
 full-requires c κs = search needs
 
--- src/lib.rt:41:1
 returns : tie.Need-returns
 returns c = rw (c .full .ensures, c .before .before .widened2 .ensures, c .before .before .before .widened .ensures) refl
 

@@ -14,39 +14,30 @@ Inv-loop masks all₀ i₀ all i = Widening masks all i
 abbrev μ-loop : tie.MeasureT-loop
 μ-loop masks all₀ i₀ all i = maxRules - i
 
--- src/lib.rt:33:5
 loop-holds : tie.Need-loop-holds Inv-loop μ-loop
 loop-holds c = widening-none _
 
--- src/lib.rt:34:18
 mul-all : tie.Need-mul-all Inv-loop μ-loop
 mul-all c = search needs
 
--- src/lib.rt:34:18
 array-read-all : tie.Need-array-read-all Inv-loop μ-loop
 array-read-all c = search needs
 
--- src/lib.rt:34:9
 mul-all-2 : tie.Need-mul-all-2 Inv-loop μ-loop
 mul-all-2 c = search needs
 
--- src/lib.rt:34:9
 array-write-all : tie.Need-array-write-all Inv-loop μ-loop
 array-write-all c = search needs
 
--- src/lib.rt:35:9
 add-i : tie.Need-add-i Inv-loop μ-loop
 add-i c = search needs
 
--- src/lib.rt:33:5
 loop-less : tie.Need-loop-less Inv-loop μ-loop
 loop-less c = search needs
 
--- src/lib.rt:33:5
 loop-again : tie.Need-loop-again Inv-loop μ-loop
 loop-again c = widening-more _ (c .before .loop .inv) (omega arith) (search needs)
 
--- src/lib.rt:28:1
 returns : tie.Need-returns Inv-loop μ-loop
 returns c = widening-all _ (c .before .loop .inv) (omega arith) (search needs)
 

@@ -14,10 +14,10 @@ use Rattle.literals.specs.Literal.{Literal, variable}
 use Rattle.literals.specs.Truth.{yesBit, noBit, yesMask, noMask, obeysMasks, allHoldMasks}
 use Rattle.literals.specs.Laws.{masks-obey, masks-hold, Proper}
 use Rattle.sat.specs.Meaning.{someFilling, obeysRules, isModel, obeysAll, extends, Model, NoModel}
-use Rattle.sat.specs.Contracts.{Masks}
+use Rattle.sat.specs.Contracts.{MasksBelow}
 use Rattle.sat.specs.Laws.Fillings.{witness-some, none-some}
 
-and-both : (a b : Bool) → a && b ≡ true → (a ≡ true) × (b ≡ true)
+pub and-both : (a b : Bool) → a && b ≡ true → (a ≡ true) × (b ≡ true)
 and-both true b e = (refl, e)
 and-both false b e = absurd (false≢true e)
 
@@ -56,10 +56,10 @@ masks-model f rs facts h = ap₂ (λ x y. x && y) (masks-rules f rs) (masks-hold
 
 -- ---- masks of n variables
 
-pub masks-none : (n : ℕ) → Masks n []
+pub masks-none : (n : ℕ) → MasksBelow n []
 masks-none n = record { below = λ i h. absurd (omega arith) }
 
-pub masks-more : {n m : ℕ} {ms : List ℕ} → m < 2 ^ n → Masks n ms → Masks n (m ∷ ms)
+pub masks-more : {n m : ℕ} {ms : List ℕ} → m < 2 ^ n → MasksBelow n ms → MasksBelow n (m ∷ ms)
 masks-more {n} {m} {ms} h r = record { below = go }
   where
     go : (i : ℕ) → i < length (m ∷ ms) → getD (m ∷ ms) i 0 < 2 ^ n

@@ -10,7 +10,7 @@ use Rattle.sets.specs.Sets.{bit, has, union, compl, Lowest}
 use Rattle.sets.specs.Laws.Bits.{bit-le, bit-zero, bit-union, bit-compl, compl-lt, member-lt, ext-below}
 use Rattle.sets.specs.Laws.Subset.{has-true, has-false, within-refl, apart-symm}
 use Rattle.sat.specs.Meaning.{rank, Model, NoModel, FirstModel}
-use Rattle.sat.specs.Contracts.{Posed, digit, Assigned, Full, unset, Keeps, Scanned, Settled, LowestUnset, Finds, Searched}
+use Rattle.sat.specs.Contracts.{Posed, digit, Assigned, AllSet, unset, Keeps, Scanned, Settled, LowestUnset, Finds, Searched}
 use Rattle.sat.specs.Laws.Rank.{rank-first, first-unique}
 use Rattle.sat.specs.Laws.Assigns.{model-assigned, assigned-model, posed-assigned, unset-less}
 use Rattle.sat.specs.declared.Partial.{Partial}
@@ -61,7 +61,7 @@ pub try-done : {n : ℕ} {ys ns : List ℕ} {on off prefer s free : ℕ} → Set
 try-done {n} {ys} {ns} {on} {off} {prefer} {s} {free} t p q z =
     record { found = record { model = it; first = λ f m. rw (alone f m) (omega arith) } }
   where
-    all : Full n on off
+    all : AllSet n on off
     all = record {
       set = λ v h.
           omega (

@@ -7,7 +7,7 @@ use native.Mathlib.Nat.{pow-suc}
 use native.Mathlib.Omega.{arith}
 use lib.ListN.{length}
 use lib.Count.{ones, ones-step}
-use Rattle.sets.specs.Sets.{bit, remove, keep, membersFrom, membersBelow, members, RisingFrom, Rising, LeastMember}
+use Rattle.sets.specs.Sets.{bit, remove, keep, membersFrom, membersBelow, members, RisingFrom, StrictlyRising, LeastMember}
 use Rattle.sets.specs.Laws.Bits.{remove-zero-half, remove-zero-even, remove-suc-half, remove-suc-odd, lt-pow, member-lt}
 use Rattle.sets.specs.Laws.Least.{least-half}
 use Rattle.sets.specs.Laws.Count.{ones-zero}
@@ -128,7 +128,7 @@ rising-from zero v m = tt
 rising-from (suc n) v m =
     subst (RisingFrom v) (sym (from-step n v m)) (rising-keep (m % 2) v (membersFrom n (suc v) (m / 2)) (rising-from n (suc v) (m / 2)))
 
-pub members-rising : (n m : ℕ) → Rising (membersBelow n m)
+pub members-rising : (n m : ℕ) → StrictlyRising (membersBelow n m)
 unfolding membersBelow
 members-rising n m = rising-from n 0 m
 

@@ -1,4 +1,4 @@
-use Rattle.book.specs.Answer.{placeAnswer}
+use Rattle.book.specs.Contracts.{placeAnswer}
 use mathlib.Core.Path.{refl}
 use mathlib.Core.List.{List, []}
 use Prim.Native.Nat.{_-_}

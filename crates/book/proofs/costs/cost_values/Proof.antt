@@ -1,4 +1,4 @@
-use Rattle.book.specs.Answer.{costAnswer}
+use Rattle.book.specs.Contracts.{costAnswer}
 use native.Mathlib.Omega.{arith}
 use borrow.Author.Needs.{needs}
 use borrow.Author.Tests.{eq-eqb, ne-eqb}

@@ -1,4 +1,4 @@
-use Rattle.book.specs.Answer.{costAnswer}
+use Rattle.book.specs.Contracts.{costAnswer}
 use mathlib.Core.Path.{refl}
 use borrow.Author.Needs.{needs}
 use Rattle.book.specs.Format.{costAt, CS}

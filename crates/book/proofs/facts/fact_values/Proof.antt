@@ -6,7 +6,7 @@ use mir.Syntax.{w8}
 use mir.Facts.{toZ-ofZ}
 use Rattle.literals.specs.Literal.{variable, ofByte}
 use Rattle.book.specs.Format.{factValues}
-use Rattle.book.specs.Answer.{factAnswer}
+use Rattle.book.specs.Contracts.{factAnswer}
 use Rattle.book.specs.declared.facts.FactRead.the-variants as FactRead
 use Rattle.book.proofs.FactLaws.{one-low, one-high, one-risen}
 use borrow.Author.Needs.{needs}

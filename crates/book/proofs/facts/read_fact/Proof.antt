@@ -1,7 +1,7 @@
 use mathlib.Core.Path.{refl}
 use borrow.Author.Needs.{needs}
 use Rattle.book.specs.Format.{factAt, FA}
-use Rattle.book.specs.Answer.{factAnswer}
+use Rattle.book.specs.Contracts.{factAnswer}
 use Rattle.book.proofs.CheckLaws.{decided, passed, whole}
 use Rattle.book.proofs.facts.read_fact.Statement.{statement}
 use Rattle.book.proofs.facts.read_fact.Tie as tie

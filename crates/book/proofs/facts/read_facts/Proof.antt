@@ -8,7 +8,7 @@ use denote.Ref.{now}
 use mir.Syntax.{w8}
 use mir.Val.{toZ, ofZ}
 use Rattle.book.specs.Format.{atFact, factAt}
-use Rattle.book.specs.Answer.{factsAnswer}
+use Rattle.book.specs.Contracts.{factsAnswer}
 use Rattle.book.proofs.FactLaws.{Risen, FactSaid, handed, FactsSoFar, facts-none, facts-more, facts-refused, end-refused, end-passed, fact-fails, fact-says, fact-whole}
 use Rattle.book.proofs.ManyLaws.{part-from}
 use Rattle.book.proofs.facts.read_facts.Statement.{statement}

@@ -1,4 +1,4 @@
-use Rattle.book.specs.Answer.{headerAnswer}
+use Rattle.book.specs.Contracts.{headerAnswer}
 use native.Mathlib.Omega.{arith}
 use borrow.Author.Needs.{needs}
 use borrow.Author.Tests.{le-leb, lt-leb}

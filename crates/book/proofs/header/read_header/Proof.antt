@@ -1,4 +1,4 @@
-use Rattle.book.specs.Answer.{headerAnswer}
+use Rattle.book.specs.Contracts.{headerAnswer}
 use mathlib.Core.Path.{refl}
 use borrow.Author.Needs.{needs}
 use Rattle.book.specs.Format.{headerAt, HD}

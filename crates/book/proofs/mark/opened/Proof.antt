@@ -1,4 +1,4 @@
-use Rattle.book.specs.Answer.{checkAnswer}
+use Rattle.book.specs.Contracts.{checkAnswer}
 use borrow.Author.Needs.{needs}
 use borrow.Author.Tests.{le-leb, lt-leb}
 use Rattle.book.specs.Format.{opened}

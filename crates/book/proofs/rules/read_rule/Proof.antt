@@ -1,7 +1,7 @@
 use mathlib.Core.Path.{refl}
 use borrow.Author.Needs.{needs}
 use Rattle.book.specs.Format.{ruleAt, RL}
-use Rattle.book.specs.Answer.{ruleAnswer}
+use Rattle.book.specs.Contracts.{ruleAnswer}
 use Rattle.book.proofs.CheckLaws.{decided, passed, whole}
 use Rattle.book.proofs.rules.read_rule.Statement.{statement}
 use Rattle.book.proofs.rules.read_rule.Tie as tie

@@ -3,7 +3,8 @@ use Prim.Native.Nat.{_-_}
 use native.Mathlib.Omega.{arith}
 use borrow.Author.Needs.{needs}
 use lib.ListN.{length-drop}
-use Rattle.book.specs.Answer.{rulesAnswer, padded}
+use Rattle.book.specs.Answer.{padded}
+use Rattle.book.specs.Contracts.{rulesAnswer}
 use Rattle.book.proofs.ManyLaws.{walked-refused, walked-all, part-from}
 use Rattle.book.proofs.RuleLaws.{Stored, stored-none, stored-more, rule-fails, rule-says, rule-size}
 use Rattle.book.proofs.rules.read_rules.Statement.{statement}

@@ -1,7 +1,7 @@
 use native.Mathlib.Omega.{arith}
 use borrow.Author.Tests.{le-leb, lt-leb}
 use Rattle.book.specs.Format.{ruleValues}
-use Rattle.book.specs.Answer.{ruleAnswer}
+use Rattle.book.specs.Contracts.{ruleAnswer}
 use Rattle.book.proofs.LiteralLaws.{literals-fail, literals-say, rule-part}
 use borrow.Author.Needs.{needs}
 use Rattle.book.proofs.rules.rule_values.Statement.{statement}

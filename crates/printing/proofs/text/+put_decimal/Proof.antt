@@ -8,7 +8,7 @@ use borrow.Fn.PlainCycle.{Measures, is, falls, and}
 use denote.Ref.{now}
 use Rattle.log.specs.Contracts.{Put}
 use Rattle.log.proofs.StoreLaws.{put-length}
-use Rattle.printing.proofs.DecimalLaws.{front, put-front-one, put-front-more, put-last, last-room, front-room}
+use Rattle.printing.proofs.DecimalLaws.{leading, put-front-one, put-front-more, put-last, last-room, front-room}
 use Rattle.printing.proofs.text.put_decimal.Reads as put-decimal
 use Rattle.printing.proofs.text.put_decimal.Kinds as put-decimal-kinds
 use Rattle.printing.proofs.text.+put_decimal.Lts-put_decimal as put-decimal-lts
@@ -32,7 +32,7 @@ claims t = (put-decimal-below t, put-decimal.Post)
 module _ (t : ℕ) where
   -- where the branch meets
   before-last : (c : put-decimal-lts.Joined1 (claims t) (put-decimal-at t) put-decimal.Post)
-      → Put (now (c .before .before .args .out)) (c .before .before .args .at) (front (c .before .before .args .n)) (c .if1 .out) (c .if1 .last)
+      → Put (now (c .before .before .args .out)) (c .before .before .args .at) (leading (c .before .before .args .n)) (c .if1 .out) (c .if1 .last)
   before-last c =
       ⊎-elim (λ w. put-front-more (c .before .before .args .n) (w .0 .taken) (w .2 .ensures) (w .5) (w .6))
       (λ w. put-front-one (c .before .before .args .n) (w .0 .left) (w .1) (w .2)) (c .if1 .came)

@@ -4,13 +4,13 @@ use Prim.Native.Nat.{_-_}
 use native.Mathlib.Omega.{arith}
 use lib.ListN.{length}
 use Rattle.printing.proofs.LeftLaws.{left-length}
-use Rattle.printing.proofs.LiteralLaws.{Listing, listing-none, blank-room, literal-room, listing-more, listing-all}
+use Rattle.printing.proofs.LiteralLaws.{LiteralsPut, listing-none, blank-room, literal-room, listing-more, listing-all}
 use Rattle.printing.proofs.text.put_literals.Statement.{statement}
 use Rattle.printing.proofs.text.put_literals.Tie as tie
 
 -- The loop's invariant: the first i literals are put.
 abbrev Inv-loop : tie.InvT-loop
-Inv-loop out₀ at bytes next₀ i₀ out next i = Listing out₀ at bytes out next i
+Inv-loop out₀ at bytes next₀ i₀ out next i = LiteralsPut out₀ at bytes out next i
 
 abbrev μ-loop : tie.MeasureT-loop
 μ-loop out₀ at bytes next₀ i₀ out next i = length bytes - i

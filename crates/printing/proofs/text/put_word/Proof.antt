@@ -1,13 +1,13 @@
 use Prim.Native.Nat.{_-_}
 use native.Mathlib.Omega.{arith}
 use lib.ListN.{length}
-use Rattle.printing.proofs.LeftLaws.{left-length, Copying, copying-none, copying-room, copying-more, copying-all}
+use Rattle.printing.proofs.LeftLaws.{left-length, WordPut, copying-none, copying-room, copying-more, copying-all}
 use Rattle.printing.proofs.text.put_word.Statement.{statement}
 use Rattle.printing.proofs.text.put_word.Tie as tie
 
 -- The loop's invariant: the first i bytes are put.
 abbrev Inv-loop : tie.InvT-loop
-Inv-loop out₀ at word i₀ out i = Copying out₀ at word out i
+Inv-loop out₀ at word i₀ out i = WordPut out₀ at word out i
 
 abbrev μ-loop : tie.MeasureT-loop
 μ-loop out₀ at word i₀ out i = length word - i
