@@ -1,8 +1,8 @@
 -- The whole book: the answers of its parts taken back, and how they are put together.
 -- Assumes nothing.
-use mathlib.Core.Path.{_≡_, refl, sym, ap, _∙_}
+use mathlib.Core.Path.{_≡_, refl, sym, _∙_}
 use mathlib.Core.Bool.{Bool, true, false, cond}
-use mathlib.Core.List.{List, [], _∷_, map}
+use mathlib.Core.List.{List, [], map}
 use Prim.Native.Nat.{ℕ, zero, suc, _+_, _≤_}
 use native.Mathlib.Omega.{arith}
 use borrow.Author.Tests.{leb-true}
@@ -12,10 +12,9 @@ use Rattle.literals.specs.Literal.{Literal}
 use Rattle.literals.specs.Truth.{yesMask, noMask}
 use Rattle.literals.specs.declared.LiteralSet.{LiteralSet}
 use Rattle.book.specs.Limits.{maxVariables, maxChoices, maxRules}
-use Rattle.book.specs.Format.{RecordRead, says, fails, Read, value, refused, withItem, begin, andThen, check, byte, opened, HD, Header, Cost, OrderBook, headerAt, headerValues, many, factsFrom, ruleAt, bookEnds, fromRules}
+use Rattle.book.specs.Format.{RecordRead, says, fails, Read, value, refused, withItem, begin, andThen, check, byte, opened, HD, Header, Cost, headerAt, headerValues, many, factsFrom, ruleAt, bookEnds, fromRules}
 use Rattle.book.specs.Answer.{bookAnswer, padded}
 use Rattle.book.specs.Contracts.{headerAnswer, placeAnswer, rulesAnswer, factsAnswer, headerOf, masks}
-use Rattle.book.specs.declared.Reading.{Reading}
 use Rattle.book.specs.declared.Verdict.the-variants as Verdict
 use Rattle.book.specs.declared.PlaceAfter.{PlaceAfter}
 use Rattle.book.specs.declared.PlaceAfter.the-variants as PlaceAfter

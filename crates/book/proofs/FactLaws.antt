@@ -18,8 +18,8 @@ use Rattle.literals.specs.Truth.{yesMask, noMask}
 use Rattle.literals.specs.WithLiteral.{WithLiteral}
 use Rattle.literals.specs.Laws.{yesMask-snoc, noMask-snoc}
 use Rattle.literals.specs.declared.LiteralSet.{LiteralSet}
-use Rattle.book.specs.Format.{RecordRead, says, fails, Read, value, refused, withItem, begin, check, byte, opened, rising, FA, EN, factAt, factValues, atFact, endAt, factsFrom}
-use Rattle.book.specs.Contracts.{checkAnswer, factAnswer, factsAnswer, masks}
+use Rattle.book.specs.Format.{RecordRead, says, fails, value, refused, withItem, begin, byte, opened, rising, FA, EN, factAt, factValues, atFact, endAt, factsFrom}
+use Rattle.book.specs.Contracts.{checkAnswer, factAnswer, factsAnswer}
 use Rattle.book.specs.declared.mark.Check.{Check}
 use Rattle.book.specs.declared.mark.Check.the-variants as Check
 use Rattle.book.specs.declared.facts.FactRead.{FactRead}

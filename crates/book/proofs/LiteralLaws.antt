@@ -3,16 +3,15 @@
 use mathlib.Core.Path.{_≡_, refl, sym, ap, ap₂, _∙_}
 use mathlib.Core.Bool.{Bool, true, false, cond, _&&_}
 use mathlib.Core.List.{List, [], _∷_, _++_, map, map-append}
-use Prim.Native.Nat.{ℕ, zero, suc, _+_, _-_, _≤_, _<_, zero-le}
+use Prim.Native.Nat.{ℕ, _+_, _-_, _≤_, _<_, zero-le}
 use native.Mathlib.Numerals.{add-one}
 use native.Mathlib.Omega.{arith}
 use borrow.Author.Tests.{lt-ltb, le-ltb, le-leb, lt-leb}
 use lib.Dec.{ltb, leb}
 use lib.ListN.{length, getD, take, drop, drop-of-length-le}
 use lib.Seq.{take-suc, drop-cons, take-all}
-use Rattle.sets.specs.Sets.{union}
 use Rattle.literals.specs.Literal.{Literal, variable, ofByte}
-use Rattle.literals.specs.Truth.{yesMask, noMask, yesBit, noBit}
+use Rattle.literals.specs.Truth.{yesMask, noMask}
 use Rattle.literals.specs.WithLiteral.{WithLiteral}
 use Rattle.literals.specs.Laws.{yesMask-snoc, noMask-snoc}
 use Rattle.literals.specs.declared.LiteralSet.{LiteralSet}

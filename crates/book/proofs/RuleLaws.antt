@@ -1,14 +1,13 @@
 -- Reading the rules: the answer of one RL record taken back, and the arrays that the masks are put into.
 -- Assumes nothing.
-use mathlib.Core.Path.{_≡_, refl, sym, ap, _∙_}
-use mathlib.Core.Bool.{Bool, true}
-use mathlib.Core.List.{List, [], _∷_, _++_, map, map-append}
-use Prim.Native.Nat.{ℕ, zero, suc, _+_, _-_, _≤_, _<_}
+use mathlib.Core.Path.{_≡_, refl, ap, _∙_}
+use mathlib.Core.Bool.{Bool}
+use mathlib.Core.List.{List, [], _∷_, _++_, map}
+use Prim.Native.Nat.{ℕ, _+_, _-_, _≤_, _<_}
 use native.Mathlib.Omega.{arith}
 use borrow.Author.Tests.{leb-true}
 use lib.Dec.{leb}
-use lib.ListN.{length, take, drop, set, replicate, length-append, length-map}
-use lib.Seq.{set-at, append-snoc}
+use lib.ListN.{length, take, drop, set, replicate}
 use Rattle.literals.specs.Literal.{Literal, ofByte}
 use Rattle.literals.specs.Truth.{yesMask, noMask}
 use Rattle.literals.specs.declared.LiteralSet.{LiteralSet}
@@ -18,7 +17,7 @@ use Rattle.book.specs.Answer.{padded}
 use Rattle.book.specs.Contracts.{masks, ruleAnswer}
 use Rattle.book.specs.declared.rules.RuleRead.{RuleRead}
 use Rattle.book.specs.declared.rules.RuleRead.the-variants as RuleRead
-use Rattle.book.proofs.CheckLaws.{checked-first-says, check-says, opened-says}
+use Rattle.book.proofs.CheckLaws.{checked-first-says, check-says}
 use Rattle.book.proofs.ManyLaws.{Walked, walked-none, walked-more}
 use Rattle.book.proofs.PaddedLaws.{filled}
 

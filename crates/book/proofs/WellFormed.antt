@@ -1,20 +1,19 @@
 -- What holds of every accepted book: its counts are within the limits, its rules and facts rise, its costs are costs.
 -- Assumes nothing.
-use mathlib.Core.Path.{_≡_, refl, sym, ap, _∙_}
+use mathlib.Core.Path.{_≡_, refl, ap, _∙_}
 use mathlib.Core.Bool.{Bool, true, false, cond, _&&_}
 use mathlib.Core.List.{List, [], _∷_, map}
-use Prim.Native.Nat.{ℕ, zero, suc, _+_, _≤_, _<_}
+use Prim.Native.Nat.{ℕ, zero, suc, _+_, _≤_}
 use native.Mathlib.Omega.{arith}
 use borrow.Author.Tests.{leb-true, lt-ltb, le-leb}
-use lib.Dec.{leb, ltb, eqb}
+use lib.Dec.{leb, eqb}
 use lib.ListN.{length, take, drop}
 use Rattle.literals.specs.Literal.{Literal, variable, ofByte}
 use Rattle.book.specs.Limits.{maxVariables, maxChoices, maxRules, maxCost, maxLiterals}
-use Rattle.book.specs.Format.{RecordRead, says, fails, Read, value, refused, withItem, begin, check, byte, pair, isCost, rising, opened, CS, RL, Header, Cost, OrderBook, costAt, costValues, ruleAt, ruleValues, factAt, atFact, endAt, many, factsFrom, readBook}
+use Rattle.book.specs.Format.{RecordRead, says, fails, Read, value, refused, withItem, begin, check, byte, pair, isCost, rising, opened, CS, RL, Cost, OrderBook, costAt, costValues, ruleAt, ruleValues, factAt, atFact, endAt, many, factsFrom, readBook}
 use Rattle.book.proofs.CheckLaws.{checked-first-says, check-says}
-use Rattle.book.proofs.BookLaws.{HeaderWhole}
 use Rattle.book.proofs.FactLaws.{Risen, fact-whole}
-use Rattle.book.proofs.PartLaws.{Parts, parts}
+use Rattle.book.proofs.PartLaws.{parts}
 
 module _ {A : Type 0} where
   -- each item of a list has a property

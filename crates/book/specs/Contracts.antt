@@ -1,5 +1,5 @@
 -- What the readers of single records answer for each meaning of their bytes: the number of a check that fails, or the values of a record that is whole.
-use mathlib.Core.Bool.{Bool, true, false, cond}
+use mathlib.Core.Bool.{cond}
 use mathlib.Core.List.{List, [], map}
 use Prim.Native.Nat.{ℕ}
 use Rattle.literals.specs.Literal.{Literal}

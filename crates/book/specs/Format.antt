@@ -1,7 +1,7 @@
 -- What the bytes of a book mean: the book, or the refusal with its number and place. This follows document 01, "The book" and
 -- "Where each check is made", record by record; each record is read from the part of the bytes that begins at its mark.
 use mathlib.Core.Bool.{Bool, true, false, cond, _&&_}
-use mathlib.Core.List.{List, [], _∷_, _++_, map}
+use mathlib.Core.List.{List, [], _∷_, map}
 use Prim.Native.Nat.{ℕ, zero, suc, _+_, _*_}
 use lib.Dec.{leb, ltb, eqb}
 use lib.ListN.{length, getD, take, drop}

@@ -1,7 +1,7 @@
 -- The masks that are kept of a rule say what its list of literals says, for every rule of every book and every filling.
 -- Assumes nothing.
 use mathlib.Core.Path.{_≡_, refl, sym, ap, _∙_}
-use mathlib.Core.List.{List, [], _∷_, map}
+use mathlib.Core.List.{List, [], map}
 use Prim.Native.Nat.{ℕ, _<_}
 use lib.ListN.{length, getD, length-map, List·getD-append, List·getD-map}
 use Rattle.literals.specs.Literal.{Literal}

@@ -1,20 +1,20 @@
 -- The loop of Algorithm 2: what is kept is common to the models found, each further model takes something away, and at the end it is exactly what is forced.
 -- Assumes nothing.
 use mathlib.Core.Path.{_≡_, refl, sym, ap, _∙_}
-use mathlib.Core.Logic.{_⊎_, inl, inr, ⊎-elim}
-use mathlib.Core.Bool.{Bool, true, false, not, _&&_}
+use mathlib.Core.Logic.{_⊎_, ⊎-elim}
+use mathlib.Core.Bool.{Bool, true, false, _&&_}
 use mathlib.Core.List.{List, [], _∷_, _++_}
-use Prim.Native.Nat.{ℕ, zero, suc, _+_, _^_, _≤_, _<_}
+use Prim.Native.Nat.{ℕ, _+_, _^_, _≤_, _<_}
 use native.Mathlib.Decide.{ℕ-discrete}
 use native.Mathlib.Omega.{arith}
 use lib.Bits.{and-comm}
 use lib.ListN.{length}
 use Rattle.sets.specs.Sets.{bit, inter, diff, count, Within}
-use Rattle.sets.specs.Laws.Bits.{bit-le, bit-inter, bit-diff, inter-lt, diff-lt}
+use Rattle.sets.specs.Laws.Bits.{bit-le, bit-inter, bit-diff}
 use Rattle.sets.specs.Laws.Count.{ones-diff-inter, ones-within, ones-proper}
 use Rattle.sets.specs.Laws.Subset.{within-le}
 use Rattle.literals.specs.Truth.{obeysMasks}
-use Rattle.literals.specs.Laws.{obeys-yes, obeys-no, obeys-some, TrueLiteral}
+use Rattle.literals.specs.Laws.{obeys-yes, obeys-no, obeys-some}
 use Rattle.literals.specs.declared.LiteralSet.{LiteralSet}
 use Rattle.sat.specs.Meaning.{obeysAll, Model, NoModel}
 use Rattle.sat.specs.Laws.Rules.{and-both}

@@ -2,8 +2,7 @@
 -- A filling of n variables is a number below 2 ^ n: bit v is the value of variable v + 1. A set of literals is two masks: `on` holds the variables that it
 -- says yes of, `off` those that it says no of. The definitions with a Bool are computed; those at the end say the same for every filling.
 use mathlib.Core.Path.{_≡_}
-use mathlib.Core.Bool.{Bool, true, false, not, cond, _&&_, _||_}
-use mathlib.Core.List.{List}
+use mathlib.Core.Bool.{Bool, true, not, cond, _&&_, _||_}
 use Prim.Native.Nat.{ℕ, zero, suc, _^_, _<_}
 use lib.IntN.{pos, negsuc}
 use Rattle.sets.specs.Sets.{has, insert, Within, Apart}

@@ -10,20 +10,19 @@ use Rattle.book.specs.Format.{Read, value, refused, OrderBook, readBook}
 use Rattle.book.specs.Answer.{maskedBook}
 use Rattle.book.proofs.WellFormed.{WellFormed, well-formed}
 use Rattle.sat.specs.Laws.Fillings.{witness-some}
-use Rattle.problem.specs.Problem.{Problem, problemOf, given}
+use Rattle.problem.specs.Problem.{problemOf, given}
 use Rattle.problem.specs.Masked.{maskedFrom}
 use Rattle.problem.specs.declared.MaskedProblem.{MaskedProblem}
 use Rattle.problem.proofs.BookLaws.{proper-book}
-use Rattle.consequence.specs.Meaning.{models, hasModel, consequenceOf, Theory, theoryOf, contradicts, ModelOf, NoModelOf}
-use Rattle.consequence.specs.Demand2.{Demand2, NoFilling}
+use Rattle.consequence.specs.Meaning.{models, hasModel, consequenceOf, Theory, ModelOf}
 use Rattle.consequence.specs.Contracts.{Concluded}
 use Rattle.consequence.specs.Laws.Forcing.{none-contradicts}
 use Rattle.consequence.specs.Laws.Masks.{to-theory, none-to-theory}
 use Rattle.consequence.specs.Laws.Problems.{model-models, no-filling, consequence-demand}
 use Rattle.consequence.specs.declared.Consequence.{Consequence}
 use Rattle.consequence.specs.declared.Consequence.the-variants as Consequence
-use Rattle.engine.specs.Calls.{withModel, NineExactly, IsModelOf, ModelSays, consequenceAnswer, FillsIn, ConsequenceCall}
-use Rattle.engine.specs.Contracts.{yesIn, noIn, theoryIn, forcedIn, FoundModel, FoundForced}
+use Rattle.engine.specs.Calls.{withModel, ModelSays, consequenceAnswer, FillsIn, ConsequenceCall}
+use Rattle.engine.specs.Contracts.{yesIn, noIn, theoryIn, FoundModel, FoundForced}
 use Rattle.engine.specs.declared.ModelAnswer.{ModelAnswer}
 use Rattle.engine.specs.declared.ModelAnswer.the-variants as ModelAnswer
 use Rattle.engine.specs.declared.ConsequenceAnswer.{ConsequenceAnswer}

@@ -1,12 +1,12 @@
 -- The log of a problem and of a book: from what the inner functions found to the call's answer, and its contract in each of its cases.
 -- Assumes nothing.
-use mathlib.Core.Path.{_≡_, refl, sym, ap, ap₂, _∙_}
-use mathlib.Core.Bool.{Bool, true, false, not, cond, true≢false}
-use mathlib.Core.List.{List, _++_}
+use mathlib.Core.Path.{_≡_, refl, sym, ap₂, _∙_}
+use mathlib.Core.Bool.{Bool, true, false, not, cond}
+use mathlib.Core.List.{List}
 use Prim.Native.Nat.{ℕ, _≤_, _<_, _^_}
 use native.Mathlib.Omega.{arith}
 use lib.Dec.{ltb}
-use lib.ListN.{length, take, drop}
+use lib.ListN.{length, drop}
 use lib.Seq.{take-at}
 use borrow.Author.Tests.{lt-ltb, le-ltb, ltb-true}
 use Rattle.literals.specs.declared.LiteralSet.{LiteralSet}
@@ -18,9 +18,9 @@ use Rattle.problem.specs.Problem.{Problem, problemOf, given}
 use Rattle.problem.specs.Masked.{maskedFrom}
 use Rattle.problem.specs.declared.MaskedProblem.{MaskedProblem}
 use Rattle.problem.proofs.BookLaws.{proper-book}
-use Rattle.consequence.specs.Meaning.{models, hasModel, consequenceOf, Theory, theoryOf, contradicts}
+use Rattle.consequence.specs.Meaning.{models, hasModel, Theory, contradicts}
 use Rattle.consequence.specs.Laws.Problems.{no-filling}
-use Rattle.step.specs.Meaning.{asking, questionOf, Step}
+use Rattle.step.specs.Meaning.{asking, Step}
 use Rattle.log.specs.Format.{Log, logBytes, isLog, readLog}
 use Rattle.log.specs.Meaning.{Run, done, stuck, runOf, runFor, logOf}
 use Rattle.log.specs.Demand3.{Explained}
@@ -29,7 +29,7 @@ use Rattle.log.specs.Laws.Explains.{explained, reads-back, not-stuck-for}
 use Rattle.log.specs.Laws.Growth as growth
 use Rattle.log.specs.declared.Written.{Written}
 use Rattle.log.specs.declared.Written.the-variants as Written
-use Rattle.engine.specs.Calls.{withModel, NoModelIn, NineExactly, LogOutcome, logged, refusedWith, ofRun, logOutcome, logAnswer, bufferAfter, LoggedAs, Explains, LogCall}
+use Rattle.engine.specs.Calls.{withModel, NineExactly, LogOutcome, logged, refusedWith, ofRun, logOutcome, logAnswer, bufferAfter, LoggedAs, Explains, LogCall}
 use Rattle.engine.specs.Contracts.{theoryIn, forcedIn, Loggable, LogReady, logIn}
 use Rattle.engine.specs.declared.LogAnswer.{LogAnswer}
 use Rattle.engine.specs.declared.LogAnswer.the-variants as LogAnswer

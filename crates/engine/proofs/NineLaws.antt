@@ -1,9 +1,9 @@
 -- 9 exactly where the book has no model: one law for the calls whose answer goes by `withModel`, and the same for one model.
 -- Assumes nothing.
-use mathlib.Core.Path.{_≡_, refl, sym, ap, _∙_}
-use mathlib.Core.Bool.{Bool, true, false, cond, true≢false}
+use mathlib.Core.Path.{_≡_, refl, sym, _∙_}
+use mathlib.Core.Bool.{Bool, true, false, cond}
 use mathlib.Core.List.{List}
-use Prim.Native.Nat.{ℕ, _≤_}
+use Prim.Native.Nat.{ℕ}
 use native.Mathlib.Omega.{arith}
 use Rattle.book.specs.Format.{Read, value, refused, OrderBook, readBook}
 use Rattle.book.proofs.NumberLaws.{reader-numbers}
@@ -11,7 +11,7 @@ use Rattle.problem.specs.Problem.{Problem, problemOf}
 use Rattle.consequence.specs.Meaning.{hasModel}
 use Rattle.consequence.specs.Demand2.{NoFilling}
 use Rattle.consequence.specs.Laws.Problems.{no-filling, some-filling}
-use Rattle.engine.specs.Calls.{withModel, NoModelIn, NineExactly, ModelSays, ModelCall}
+use Rattle.engine.specs.Calls.{withModel, NineExactly, ModelSays, ModelCall}
 use Rattle.engine.specs.declared.ModelAnswer.{ModelAnswer}
 use Rattle.engine.specs.declared.ModelAnswer.the-variants as ModelAnswer
 

@@ -3,19 +3,16 @@
 use mathlib.Core.Path.{_≡_, refl, sym, ap, ap₂, _∙_}
 use mathlib.Core.Bool.{Bool, true, false, not, cond}
 use mathlib.Core.List.{List, map}
-use Prim.Native.Nat.{ℕ, _+_, _≤_}
+use Prim.Native.Nat.{ℕ}
 use native.Mathlib.Omega.{arith}
-use lib.ListN.{length}
 use Rattle.literals.specs.Truth.{yesMask, noMask}
-use Rattle.literals.specs.declared.LiteralSet.{LiteralSet}
 use Rattle.book.specs.Format.{OrderBook}
 use Rattle.book.specs.Answer.{maskedBook, table}
 use Rattle.book.proofs.WellFormed.{WellFormed}
-use Rattle.problem.specs.Limits.{mostRules}
-use Rattle.problem.specs.Problem.{Problem, problemOf, given}
+use Rattle.problem.specs.Problem.{problemOf, given}
 use Rattle.problem.specs.Masked.{maskedFrom}
 use Rattle.problem.proofs.BookLaws.{proper-book, room, masks-kept, proper-posed}
-use Rattle.consequence.specs.Meaning.{hasModel, yesConsequence, noConsequence, consequenceOf, Theory, theoryOf, contradicts, yesForced, noForced}
+use Rattle.consequence.specs.Meaning.{hasModel, consequenceOf, Theory, theoryOf, contradicts, yesForced, noForced}
 use Rattle.consequence.specs.Contracts.{maskTheory}
 use Rattle.consequence.specs.Laws.Masks.{same-theory}
 use Rattle.consequence.specs.Laws.Problems.{has-contradicts, yes-consequence, no-consequence}

@@ -1,13 +1,12 @@
 -- The next step of a problem and of a book: from what the inner functions found to the call's answer.
 -- Assumes nothing.
-use mathlib.Core.Path.{_≡_, refl, sym, ap, ap₂, _∙_}
+use mathlib.Core.Path.{_≡_, refl, sym, ap₂, _∙_}
 use mathlib.Core.Bool.{Bool, true, false, not, cond, _&&_, false≢true}
 use mathlib.Core.List.{List}
-use Prim.Native.Nat.{ℕ, _+_, _≤_}
+use Prim.Native.Nat.{ℕ}
 use native.Mathlib.Omega.{arith}
 use borrow.Author.Tests.{not-true, not-false}
 use lib.IntN.{ℤ}
-use lib.ListN.{length, take}
 use lib.Seq.{length-take-le}
 use Rattle.sets.specs.Sets.{subset, Within}
 use Rattle.sets.specs.Laws.Subset.{subset-within}
@@ -18,7 +17,7 @@ use Rattle.book.proofs.WellFormed.{WellFormed}
 use Rattle.problem.specs.Problem.{Problem, problemOf, given}
 use Rattle.problem.specs.Masked.{maskedFrom}
 use Rattle.problem.specs.declared.MaskedProblem.{MaskedProblem}
-use Rattle.consequence.specs.Meaning.{hasModel, consequenceOf, Theory, theoryOf, contradicts}
+use Rattle.consequence.specs.Meaning.{hasModel, consequenceOf, Theory, contradicts}
 use Rattle.consequence.specs.Laws.Masks.{of-theory}
 use Rattle.step.specs.Meaning.{asking, questionOf, Answer, nothingLeft, noCandidate, step, stepOf}
 use Rattle.step.specs.Contracts.{Asked, nextOf}
@@ -27,7 +26,7 @@ use Rattle.step.specs.declared.Next.the-variants as Next
 use Rattle.log.specs.Contracts.{ForcedBy}
 use Rattle.log.specs.Laws.Growth as growth
 use Rattle.engine.specs.Calls.{withModel, between, stepSays, stepFor, stepAnswer, StepCall}
-use Rattle.engine.specs.Contracts.{yesIn, noIn, theoryIn, forcedIn, FoundForced, stepQuestion, stepIn, Steppable, StepReady}
+use Rattle.engine.specs.Contracts.{yesIn, noIn, theoryIn, forcedIn, FoundForced, stepIn, Steppable, StepReady}
 use Rattle.engine.specs.declared.ConsequenceAnswer.{ConsequenceAnswer}
 use Rattle.engine.specs.declared.ConsequenceAnswer.the-variants as ConsequenceAnswer
 use Rattle.engine.specs.declared.StepAnswer.{StepAnswer}

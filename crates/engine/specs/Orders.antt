@@ -5,7 +5,7 @@ use Prim.Native.Nat.{ℕ}
 use lib.Count.{ones}
 use lib.IntN.{pos, negsuc}
 use Rattle.sets.specs.Sets.{bit, has, insert, subset, disjoint, diff, membersFrom, membersBelow, members}
-use Rattle.literals.specs.Literal.{Literal, variable, ofByte, byteOf}
+use Rattle.literals.specs.Literal.{variable, ofByte, byteOf}
 use Rattle.literals.specs.Truth.{holds, obeys, allHold, yesBit, noBit, yesMask, noMask, allHoldMasks}
 use Rattle.literals.specs.declared.LiteralSet.{LiteralSet}
 use Rattle.book.specs.Limits.{maxLog}

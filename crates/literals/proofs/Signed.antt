@@ -1,13 +1,13 @@
 -- The signed arithmetic of one byte: what a difference from 256 and a negation give.
 -- Assumes nothing.
-use mathlib.Core.Path.{_≡_, refl, sym, ap, _∙_}
+use mathlib.Core.Path.{_≡_, refl, ap}
 use mathlib.Core.Bool.{true, false, true≢false}
 use Prim.Native.Nat.{ℕ, suc, _-_, _≤_, _<_}
 use native.Mathlib.Omega.{arith}
-use borrow.Author.Tests.{lt-ltb, le-ltb, ltb-false, ltb-true}
+use borrow.Author.Tests.{lt-ltb, le-ltb, ltb-true}
 use lib.IntN.{ℤ, pos, negsuc, _-ℤ_, _+ℤ_, natAbs}
-use lib.Signed.{ltZ, nonNeg, mag}
-use lib.Dec.{T, ltb}
+use lib.Signed.{ltZ, nonNeg}
+use lib.Dec.{T}
 use mir.Syntax.{w8, w16}
 use mir.Val.{SFits, Fits, toZ, ofZ}
 use mir.Facts.{toZ-pos, toZ-ofZ}

@@ -4,14 +4,14 @@ use mathlib.Core.Path.{_≡_, refl, sym, ap, ap₂, _∙_}
 use mathlib.Core.Logic.{_⊎_, inl, inr}
 use mathlib.Core.Bool.{Bool, true, false, not, _&&_, _||_, false≢true}
 use mathlib.Core.List.{List, [], _∷_, _++_}
-use Prim.Native.Nat.{ℕ, zero, suc, _+_, _≤_, _<_, _^_, max}
+use Prim.Native.Nat.{ℕ, zero, suc, _+_, _≤_, _<_}
 use native.Mathlib.Omega.{arith}
 use native.Mathlib.Decide.{ℕ-discrete}
 use lib.Bits.{or-zero-r}
 use lib.IntN.{pos, negsuc}
-use Rattle.sets.specs.Sets.{bit, has, single, union, subset, disjoint, diff, Within, Apart}
+use Rattle.sets.specs.Sets.{bit, has, single, union, subset, disjoint, diff}
 use Rattle.sets.specs.Laws.Bits.{bit-le, bit-union, bit-single-same, bit-single-other, ext}
-use Rattle.sets.specs.Laws.Subset.{has-true, has-false, one-has, zero-has, subset-within, within-subset, subset-false, disjoint-apart, apart-disjoint, disjoint-false}
+use Rattle.sets.specs.Laws.Subset.{has-true, has-false, subset-within, within-subset, subset-false, disjoint-apart, apart-disjoint, disjoint-false}
 use Rattle.literals.specs.Literal.{Literal, variable}
 use Rattle.literals.specs.Truth.{holds, obeys, allHold, yesBit, noBit, yesMask, noMask, obeysMasks, allHoldMasks}
 

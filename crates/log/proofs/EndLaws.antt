@@ -2,8 +2,8 @@
 -- Assumes nothing.
 use mathlib.Core.Path.{_≡_, refl, sym, ap, _∙_}
 use mathlib.Core.Bool.{true, false}
-use mathlib.Core.List.{List, [], _∷_, _++_, append-assoc, append-nil}
-use Prim.Native.Nat.{ℕ, zero, suc, _+_, _≤_, _<_, zero-le}
+use mathlib.Core.List.{List, _++_}
+use Prim.Native.Nat.{ℕ, suc, _+_, _≤_, _<_}
 use native.Mathlib.Numerals.{add-one}
 use native.Mathlib.Omega.{arith}
 use lib.ListN.{length, getD, take, drop, set, length-drop, length-append}
@@ -13,9 +13,9 @@ use Rattle.book.specs.Limits.{maxLog}
 use Rattle.step.specs.Meaning.{Step}
 use Rattle.step.specs.declared.Next.{Next}
 use Rattle.step.specs.declared.Next.the-variants as Next
-use Rattle.log.specs.Format.{okBytes, logBytes}
+use Rattle.log.specs.Format.{okBytes}
 use Rattle.log.specs.Meaning.{Run, done, stuck}
-use Rattle.log.specs.Contracts.{Put, LogEnded, Ran, BuiltAs, WrittenAs, LogWritten, totalOf}
+use Rattle.log.specs.Contracts.{Put, LogEnded, Ran, WrittenAs}
 use Rattle.log.specs.declared.Built.{Built}
 use Rattle.log.specs.declared.Written.{Written}
 use Rattle.log.specs.declared.Written.the-variants as Written

@@ -2,12 +2,10 @@
 -- Assumes nothing.
 use mathlib.Core.Path.{_≡_, refl, sym, ap, ap₂, _∙_}
 use mathlib.Core.List.{List, [], _∷_, _++_, map, map-append, append-assoc, append-nil}
-use Prim.Native.Nat.{ℕ, zero, suc, _+_, _^_, _≤_, _<_}
-use native.Mathlib.Numerals.{add-one}
+use Prim.Native.Nat.{ℕ, suc, _+_, _^_, _≤_, _<_}
 use native.Mathlib.Omega.{arith}
 use lib.ListN.{length, set, length-append, length-map}
-use lib.Seq.{sets}
-use Rattle.sets.specs.Sets.{has, union, count, members, membersBelow, remove, LeastMember, Lowest, width}
+use Rattle.sets.specs.Sets.{has, union, count, members, remove, LeastMember, Lowest, width}
 use Rattle.sets.specs.Laws.Bits.{remove-lt}
 use Rattle.sets.specs.Laws.Count.{ones-remove}
 use Rattle.sets.specs.Laws.Members.{members-zero, members-length, members-below, members-least}

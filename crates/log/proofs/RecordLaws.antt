@@ -1,11 +1,11 @@
 -- Writing a record, part by part.
 -- Assumes nothing.
-use mathlib.Core.Path.{_≡_, refl, sym, ap, _∙_}
+use mathlib.Core.Path.{_≡_, refl, ap, _∙_}
 use mathlib.Core.List.{List, [], _∷_, _++_, append-assoc}
-use Prim.Native.Nat.{ℕ, _+_, _%_, _/_, _≤_, _<_}
+use Prim.Native.Nat.{ℕ, _+_, _%_, _/_, _≤_}
 use native.Mathlib.Omega.{arith}
 use lib.ListN.{length, set, length-append}
-use Rattle.literals.specs.Literal.{Literal, byteOf}
+use Rattle.literals.specs.Literal.{byteOf}
 use Rattle.step.specs.Meaning.{Step}
 use Rattle.log.specs.Format.{recordBytes, ST, OK, listBytes, twoBytes, fourBytes, okBytes}
 use Rattle.log.specs.Meaning.{literalsOf}

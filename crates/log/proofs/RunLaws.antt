@@ -1,24 +1,21 @@
 -- The loop of the log: what holds after some steps, what one more changes, and the end.
 -- Assumes nothing.
 use mathlib.Core.Path.{_≡_, refl, sym, ap, ap₂, _∙_}
-use mathlib.Core.Bool.{Bool, true, false}
+use mathlib.Core.Bool.{false}
 use mathlib.Core.List.{List, [], _∷_, _++_, append-assoc, append-nil}
-use Prim.Native.Nat.{ℕ, zero, suc, _+_, _-_, _*_, _^_, _≤_, _<_, max}
-use native.Mathlib.Nat.{max-comm, zero-add}
-use native.Mathlib.Decide.{ℕ-discrete}
+use Prim.Native.Nat.{ℕ, suc, _+_, _-_, _*_, _^_, _≤_, _<_}
+use native.Mathlib.Nat.{zero-add}
 use native.Mathlib.Omega.{arith}
 use lib.Count.{ones-le}
 use lib.IntN.{ℤ}
-use lib.ListN.{length, take, replicate, length-append, length-replicate}
-use lib.Seq.{sets, sets-eq, take-at}
-use Rattle.sets.specs.Sets.{bit, union, diff, count, Within, Apart}
-use Rattle.sets.specs.Laws.Bits.{bit-le, bit-union, bit-diff, union-lt, member-lt}
+use lib.ListN.{length, replicate, length-append, length-replicate}
+use Rattle.sets.specs.Sets.{bit, union, diff, count, Within}
+use Rattle.sets.specs.Laws.Bits.{bit-union, bit-diff, union-lt}
 use Rattle.sets.specs.Laws.Subset.{within-le}
-use Rattle.sets.specs.Laws.Count.{ones-union, ones-within, ones-proper}
+use Rattle.sets.specs.Laws.Count.{ones-union}
 use Rattle.literals.specs.declared.LiteralSet.{LiteralSet}
 use Rattle.book.specs.Limits.{maxChoices, maxStepBytes, maxLog}
-use Rattle.consequence.specs.Contracts.{maskTheory}
-use Rattle.step.specs.Meaning.{Question, Step, Answer, nothingLeft, noCandidate, step, stepOf, literalOf, goals, yesGoals, noGoals}
+use Rattle.step.specs.Meaning.{Step, Answer, nothingLeft, noCandidate, step, stepOf, goals, yesGoals, noGoals}
 use Rattle.step.specs.Contracts.{Asked, maskQuestion, nextOf}
 use Rattle.step.specs.Laws.TheStep.{asked-sound}
 use Rattle.step.specs.IsStep.{IsStep}
@@ -26,7 +23,7 @@ use Rattle.step.specs.Theorems.{step-is}
 use Rattle.step.specs.declared.Next.{Next}
 use Rattle.step.specs.declared.Next.the-variants as Next
 use Rattle.log.specs.Format.{recordsBytes, okBytes, logBytes}
-use Rattle.log.specs.Meaning.{Run, done, stuck, stepThen, withNew, runFrom, runOf, recordOf, costsWritten, logOf}
+use Rattle.log.specs.Meaning.{Run, done, stuck, stepThen, withNew, runFrom, runOf, costsWritten, logOf}
 use Rattle.log.specs.Contracts.{Put, putStep, stepBytes, stepsBytes, totalOf, LogAsked, LogEnded, Ran, BuiltAs}
 use Rattle.log.specs.Laws.Growth as growth
 use Rattle.log.specs.declared.Built.{Built}

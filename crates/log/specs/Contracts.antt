@@ -1,9 +1,8 @@
 -- What the functions of the log ask and say.
 use mathlib.Core.Path.{_≡_}
 use mathlib.Core.Bool.{true, false}
-use mathlib.Core.List.{List, [], _∷_, _++_, map}
+use mathlib.Core.List.{List, _++_, map}
 use Prim.Native.Nat.{ℕ, _+_, _≤_}
-use lib.IntN.{ℤ}
 use lib.ListN.{length, take, drop}
 use lib.Seq.{sets}
 use Rattle.sets.specs.Sets.{has}

@@ -1,12 +1,11 @@
 -- The log of a problem (document 01, "The log"): the steps that it is made of.
-use mathlib.Core.Bool.{Bool, true, false}
 use mathlib.Core.List.{List, [], _∷_, map}
 use Prim.Native.Nat.{ℕ, zero, suc, _+_}
 use lib.ListN.{length}
 use Rattle.sets.specs.Sets.{has, union, count, members}
 use Rattle.literals.specs.Literal.{Literal}
 use Rattle.problem.specs.Problem.{Problem, given}
-use Rattle.step.specs.Meaning.{Question, questionOf, goals, Step, Answer, nothingLeft, noCandidate, step, stepOf, literalOf}
+use Rattle.step.specs.Meaning.{Question, questionOf, goals, Step, nothingLeft, noCandidate, step, stepOf, literalOf}
 use Rattle.log.specs.Format.{StepRecord, Log}
 
 -- ---- the steps of a log

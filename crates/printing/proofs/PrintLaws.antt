@@ -3,7 +3,7 @@
 use mathlib.Core.Path.{_≡_, refl, sym, ap, _∙_}
 use mathlib.Core.Bool.{Bool, true, false, cond}
 use mathlib.Core.List.{List, _++_}
-use Prim.Native.Nat.{ℕ, _+_, _-_, _*_, _≤_, _<_}
+use Prim.Native.Nat.{ℕ, _+_, _-_, _≤_, _<_}
 use native.Mathlib.Omega.{arith}
 use borrow.Author.Tests.{lt-ltb, le-ltb}
 use lib.Dec.{ltb}
@@ -11,12 +11,12 @@ use lib.ListN.{length, take, drop, replicate, length-append, length-drop, length
 use lib.Seq.{take-at}
 use Rattle.book.specs.Limits.{maxLog}
 use Rattle.book.specs.Format.{readBook}
-use Rattle.log.specs.Format.{Log, logBytes, isLog, readLog}
+use Rattle.log.specs.Format.{Log, logBytes}
 use Rattle.engine.specs.Calls.{LogOutcome, logged, refusedWith, logOutcome, logAnswer, bufferAfter, LoggedAs, LogCall}
 use Rattle.engine.specs.declared.LogAnswer.{LogAnswer}
 use Rattle.engine.specs.declared.LogAnswer.the-variants as LogAnswer
 use Rattle.engine.proofs.LogLaws.{outcome-reads}
-use Rattle.printing.specs.Text.{logText, refusalText}
+use Rattle.printing.specs.Text.{refusalText}
 use Rattle.printing.specs.Printed.{maxText, outcomeText, textOf, printAnswer, printedBuffer, PrintCall}
 use Rattle.printing.specs.Contracts.{Front, Printable, LogPut}
 use Rattle.printing.specs.declared.Printed.{Printed}

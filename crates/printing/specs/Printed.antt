@@ -1,6 +1,6 @@
 -- What the call that prints means, for any bytes and any buffer: the text, and every byte of the buffer.
 use mathlib.Core.Path.{_≡_}
-use mathlib.Core.Bool.{Bool, true, false, cond}
+use mathlib.Core.Bool.{cond}
 use mathlib.Core.List.{List, _++_}
 use Prim.Native.Nat.{ℕ, _*_}
 use lib.Dec.{ltb}

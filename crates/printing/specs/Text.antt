@@ -1,5 +1,5 @@
 -- The printed log (document 01, "The printed log"): the text of a log, of each of its lines, and of a refusal, as ASCII bytes.
-use mathlib.Core.Bool.{Bool, true, false}
+use mathlib.Core.Bool.{true, false}
 use mathlib.Core.List.{List, [], _∷_, _++_}
 use Prim.Native.Nat.{ℕ, zero, suc, _+_, _/_, _%_}
 use lib.Dec.{ltb}

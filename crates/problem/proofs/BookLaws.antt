@@ -1,6 +1,6 @@
 -- The problem of an accepted book is proper, and the masks that the code makes of the book are those of the problem's rules.
 -- Assumes nothing.
-use mathlib.Core.Path.{_≡_, refl, sym, ap, _∙_}
+use mathlib.Core.Path.{_≡_, refl, sym, _∙_}
 use mathlib.Core.Logic.{by-cases}
 use mathlib.Core.Bool.{Bool, true, false, _&&_, false≢true}
 use mathlib.Core.List.{List, [], _∷_, _++_, map, append-assoc}
@@ -13,22 +13,22 @@ use lib.Dec.{ltb, leb}
 use lib.Pow.{pow-mono}
 use lib.IntN.{pos, negsuc}
 use lib.ListN.{length, take, replicate, length-map, length-append, length-replicate}
-use lib.Seq.{take-at, take-append-le}
+use lib.Seq.{take-at}
 use Rattle.sets.specs.Sets.{bit, single, union, full, Within, Apart}
 use Rattle.sets.specs.Laws.Subset.{within-le}
 use Rattle.sets.specs.Laws.Bits.{bit-zero, bit-le, bit-union, bit-single-other, bit-full, full-lt, member-lt}
 use Rattle.literals.specs.Literal.{Literal, variable}
 use Rattle.literals.specs.Truth.{yesBit, noBit, yesMask, noMask}
 use Rattle.literals.specs.Laws.{Proper}
-use Rattle.book.specs.Limits.{maxVariables, maxChoices, maxRules, maxCost}
+use Rattle.book.specs.Limits.{maxChoices, maxRules, maxCost}
 use Rattle.book.specs.Format.{OrderBook, Cost, rising}
-use Rattle.book.specs.Answer.{maskedBook, table, row, padded}
+use Rattle.book.specs.Answer.{table, row, padded}
 use Rattle.book.proofs.WellFormed.{Each, LiteralsRise, GoodCost, WellFormed}
 use Rattle.sat.specs.Contracts.{Posed, MasksBelow}
 use Rattle.sat.specs.Laws.Rules.{Of, masks-none, masks-more, yesMask-lt, noMask-lt}
 use Rattle.problem.specs.Limits.{mostRules}
 use Rattle.problem.specs.Problem.{Problem, problemOf, given, costOf}
-use Rattle.problem.specs.Masked.{widenedTo, maskedFrom}
+use Rattle.problem.specs.Masked.{widenedTo}
 use Rattle.problem.specs.Proper.{AllOf, ProperProblem}
 
 -- ---- literals that rise

@@ -6,8 +6,8 @@ use Prim.Native.Nat.{ℕ, _≤_, _<_}
 use native.Mathlib.Decide.{ℕ-discrete}
 use native.Mathlib.Omega.{arith}
 use Rattle.sets.specs.Sets.{bit, inter, insert, remove, Within, Apart}
-use Rattle.sets.specs.Laws.Bits.{bit-le, bit-zero, bit-inter, bit-insert-same, bit-insert-other, bit-remove-same, bit-remove-other}
-use Rattle.sets.specs.Laws.Subset.{within-refl, within-trans, within-le}
+use Rattle.sets.specs.Laws.Bits.{bit-le, bit-zero, bit-inter, bit-insert-same, bit-remove-same, bit-remove-other}
+use Rattle.sets.specs.Laws.Subset.{within-refl, within-trans, within-le, within-insert, in-insert}
 
 -- ---- the least key
 
@@ -69,20 +69,6 @@ least-same {A} {B} {P} {key} {R} {other} {b} {r} back forth l =
 
 -- ---- one element more, one less
 
-pub within-insert : (s v : ℕ) → Within s (insert s v)
-within-insert s v = record { keeps = at }
-  where
-    at : (u : ℕ) → bit s u ≤ bit (insert s v) u
-    at u =
-        by-cases (ℕ-discrete u v) (λ q. rw q (omega (arith, bit-le s v, bit-insert-same s v))) (λ q. omega (arith, bit-insert-other s v u q))
-
-pub insert-within : (s t v : ℕ) → Within s t → bit t v ≡ 1 → Within (insert s v) t
-insert-within s t v w e = record { keeps = at }
-  where
-    at : (u : ℕ) → bit (insert s v) u ≤ bit t u
-    at u =
-        by-cases (ℕ-discrete u v) (λ q. rw q (omega (arith, bit-le (insert s v) v))) (λ q. omega (arith, bit-insert-other s v u q, w .keeps u))
-
 pub remove-within : (t v : ℕ) → Within (remove t v) t
 remove-within t v = record { keeps = at }
   where
@@ -99,7 +85,7 @@ within-remove s t v w e = record { keeps = at }
 pub insert-more : (s v : ℕ) → bit s v ≡ 0 → s < insert s v
 insert-more s v e =
     let ne : s ≡ insert s v → ⊥ = λ p. omega (arith, ap (λ (x : ℕ). bit x v) p, bit-insert-same s v) in
-    omega (arith, within-le s (insert s v) (within-insert s v))
+    omega (arith, within-le s (insert s v) (in-insert s v))
 
 pub remove-less : (t v : ℕ) → bit t v ≡ 1 → remove t v < t
 remove-less t v e =
@@ -152,11 +138,11 @@ module _ {Con : ℕ → Type 0} {key : ℕ → ℕ} {s top : ℕ} where
       split : (t : ℕ) → InInterval Con s top t → InInterval Con (insert s v) top t ⊎ InInterval Con s (remove top v) t
       split t p =
           by-cases (ℕ-discrete (bit t v) 1)
-          (λ e. inl (record { above = insert-within s t v (p .above) e; below = p .below; holds = p .holds }))
+          (λ e. inl (record { above = within-insert s v t (p .above) e; below = p .below; holds = p .holds }))
           (λ d. inr (record { above = p .above; below = within-remove t top v (p .below) (omega (arith, bit-le t v)); holds = p .holds }))
 
       left : (t : ℕ) → InInterval Con (insert s v) top t → InInterval Con s top t
-      left t p = record { above = within-trans s (insert s v) t (within-insert s v) (p .above); below = p .below; holds = p .holds }
+      left t p = record { above = within-trans s (insert s v) t (in-insert s v) (p .above); below = p .below; holds = p .holds }
 
       right : (t : ℕ) → InInterval Con s (remove top v) t → InInterval Con s top t
       right t p = record { above = p .above; below = within-trans t (remove top v) top (p .below) (remove-within top v); holds = p .holds }

@@ -1,5 +1,4 @@
-use Prim.Native.Nat.{_-_, _≤_}
-use native.Mathlib.Omega.{arith}
+use Prim.Native.Nat.{_-_}
 use borrow.Author.Needs.{needs}
 use lib.ListN.{length}
 use Rattle.consequence.proofs.CopyLaws.{Copied, copied-none, copied-more, copied-all}

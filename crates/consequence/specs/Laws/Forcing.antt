@@ -8,9 +8,9 @@ use native.Mathlib.Nat.{pow-suc}
 use native.Mathlib.Decide.{ℕ-discrete}
 use native.Mathlib.Omega.{arith}
 use Rattle.sets.specs.Sets.{bit, has, insert}
-use Rattle.sets.specs.Laws.Bits.{bit-zero, bit-le, bit-high, bit-insert-same, bit-insert-other, insert-lt, member-lt, ext-below}
+use Rattle.sets.specs.Laws.Bits.{bit-zero, bit-le, bit-insert-same, bit-insert-other, insert-lt, member-lt, ext-below}
 use Rattle.sets.specs.Laws.Subset.{has-true, has-false, one-has, zero-has}
-use Rattle.sat.specs.Meaning.{everyFilling, extends}
+use Rattle.sat.specs.Meaning.{extends}
 use Rattle.sat.specs.Laws.Fillings.{every-all, all-every, every-fails}
 use Rattle.sat.specs.Laws.Rules.{and-both, extends-both, both-extends}
 use Rattle.consequence.specs.Meaning.{Theory, obeying, contradicts, forcesYes, forcesNo, collect, yesForced, noForced, ModelOf, NoModelOf}

@@ -5,7 +5,6 @@ use mathlib.Core.Bool.{Bool, true}
 use mathlib.Core.List.{List, [], map}
 use Prim.Native.Nat.{ℕ}
 use Rattle.sets.specs.Sets.{bit}
-use Rattle.literals.specs.Literal.{Literal}
 use Rattle.literals.specs.Truth.{yesMask, noMask}
 use Rattle.sat.specs.Meaning.{obeysAll, Model, NoModel}
 use Rattle.sat.specs.Contracts.{Assigned, digit}

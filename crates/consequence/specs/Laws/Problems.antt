@@ -2,7 +2,6 @@
 use mathlib.Core.Path.{_≡_, refl, sym, ap, ap₂, _∙_}
 use mathlib.Core.Bool.{Bool, true, false, not, _&&_, _||_, false≢true, true≢false}
 use Prim.Native.Nat.{ℕ, zero, suc, _^_, _<_}
-use native.Mathlib.Omega.{arith}
 use lib.IntN.{pos, negsuc}
 use Rattle.sets.specs.Sets.{bit, has}
 use Rattle.sets.specs.Laws.Bits.{member-lt}
@@ -11,10 +10,10 @@ use Rattle.literals.specs.Literal.{Literal}
 use Rattle.literals.specs.Truth.{holds}
 use Rattle.literals.specs.Laws.{Proper, masks-hold}
 use Rattle.sat.specs.Meaning.{everyFilling, someFilling, obeysRules, isModel}
-use Rattle.sat.specs.Laws.Fillings.{every-all, all-every, some-witness, some-none, witness-some}
+use Rattle.sat.specs.Laws.Fillings.{every-all, all-every, some-witness, some-none}
 use Rattle.sat.specs.Laws.Rules.{and-both}
 use Rattle.problem.specs.Problem.{Problem, given}
-use Rattle.consequence.specs.Meaning.{models, hasModel, follows, collect, yesConsequence, noConsequence, consequenceOf, Theory, theoryOf, obeying, contradicts, forcesYes, forcesNo, yesForced, noForced, ModelOf}
+use Rattle.consequence.specs.Meaning.{models, hasModel, follows, collect, yesConsequence, noConsequence, consequenceOf, theoryOf, obeying, contradicts, forcesYes, forcesNo, yesForced, noForced, ModelOf}
 use Rattle.consequence.specs.Demand2.{FilledIn, OverChoice, Always, Demand2, NoFilling}
 use Rattle.consequence.specs.Laws.Forcing.{collect-in, collect-true, obeying-model, model-obeying}
 

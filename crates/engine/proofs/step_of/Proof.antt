@@ -1,5 +1,5 @@
-use mathlib.Core.Path.{_≡_, refl, sym, ap, _∙_}
-use mathlib.Core.Bool.{true, false}
+use mathlib.Core.Path.{_≡_, refl}
+use mathlib.Core.Bool.{false}
 use Rattle.consequence.specs.Meaning.{contradicts}
 use Rattle.engine.specs.Contracts.{theoryIn, forcedIn, stepIn}
 use Rattle.engine.proofs.StepLaws.{found-nine, found-set, stepping, flag-no, flag-yes}

@@ -3,7 +3,7 @@
 use mathlib.Core.Path.{refl}
 use native.Mathlib.Omega.{arith}
 use lib.IntN.{pos}
-use mir.Syntax.{w8, w16}
+use mir.Syntax.{w16}
 use mir.Facts.{toZ-ofZ}
 use Rattle.literals.specs.Literal.{byteOf}
 use Rattle.literals.proofs.Signed.{Wrapped, wrapped, plain, itself}

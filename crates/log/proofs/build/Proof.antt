@@ -8,8 +8,7 @@ use mir.Facts.{toZ-ofZ}
 use Rattle.literals.specs.declared.LiteralSet.{LiteralSet}
 use Rattle.step.specs.declared.Next.the-variants as Next
 use Rattle.log.specs.Contracts.{Put, stepBytes}
-use mathlib.Core.Path.{_≡_, sym, _∙_}
-use Prim.Native.Nat.{_+_, _*_}
+use mathlib.Core.Path.{_≡_, sym}
 use native.Mathlib.Omega.{arith}
 use borrow.Author.Needs.{needs}
 use denote.Ref.{now}

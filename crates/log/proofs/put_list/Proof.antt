@@ -1,11 +1,10 @@
-use mathlib.Core.Path.{_≡_, refl, sym, ap, _∙_}
+use mathlib.Core.Path.{_≡_, ap, _∙_}
 use Prim.Native.Nat.{_+_, _<_, _≤_, _^_, suc}
 use native.Mathlib.Omega.{arith}
 use borrow.Author.Needs.{needs}
 use lib.ListN.{length, set, length-set}
 use denote.Ref.{now}
 use Rattle.sets.specs.Sets.{count, union, members, width}
-use Rattle.sets.specs.Laws.Bits.{union-lt}
 use Rattle.log.specs.Contracts.{memberByte}
 use Rattle.log.proofs.ListLaws.{Listing, listing-none, listing-room, listing-more, listing-less, listing-all, listed, list-length, members-count}
 use Rattle.log.proofs.StoreLaws.{put-length}

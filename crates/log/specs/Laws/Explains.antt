@@ -1,6 +1,6 @@
 -- Demand 3 of the log that the meaning gives, for every proper problem with a model.
 -- Assumes nothing.
-use mathlib.Core.Path.{_≡_, refl, sym, ap, subst, _∙_}
+use mathlib.Core.Path.{_≡_, refl, sym, _∙_}
 use mathlib.Core.Bool.{Bool, true, false, not, false≢true}
 use mathlib.Core.List.{List, [], _∷_, _++_, map}
 use Prim.Native.Nat.{ℕ, zero, suc, _+_, _-_, _*_, _^_, _≤_, _<_}
@@ -13,14 +13,13 @@ use lib.ListN.{length, length-map}
 use lib.Pow.{pow-mono}
 use Rattle.sets.specs.Sets.{bit, union, diff, count, Within, Apart}
 use Rattle.sets.specs.Laws.Bits.{bit-le, bit-union, bit-diff, member-lt}
-use Rattle.sets.specs.Laws.Subset.{within-le, within-refl, apart-symm}
+use Rattle.sets.specs.Laws.Subset.{within-le, within-refl, apart-insert, apart-symm}
 use Rattle.literals.specs.Literal.{Literal, variable}
 use Rattle.literals.specs.Truth.{holds, allHold, yesMask, noMask}
 use Rattle.literals.specs.declared.LiteralSet.{LiteralSet}
 use Rattle.book.specs.Limits.{maxCost}
 use Rattle.sat.specs.Meaning.{obeysRules}
 use Rattle.sat.specs.Contracts.{digit}
-use Rattle.sat.specs.Laws.Assigns.{apart-insert}
 use Rattle.problem.specs.Problem.{Problem, given}
 use Rattle.problem.specs.Proper.{ProperProblem}
 use Rattle.consequence.specs.Meaning.{hasModel, yesConsequence, noConsequence, consequenceOf, theoryOf, contradicts, ModelOf}
@@ -33,12 +32,12 @@ use Rattle.step.specs.Theorems.{step-is, left-known, some-step}
 use Rattle.step.specs.Laws.Costs.{set-bound}
 use Rattle.step.specs.Laws.Explores.{opposite}
 use Rattle.step.specs.Laws.TheStep.{sound-sized}
-use Rattle.log.specs.Format.{StepRecord, Log, logBytes, isLog, readLog, risingOver}
+use Rattle.log.specs.Format.{logBytes, isLog, readLog, risingOver}
 use Rattle.log.specs.Meaning.{Run, done, stuck, stepThen, withNew, runFrom, runOf, runFor, literalsOf, recordOf, costsWritten, logOf}
 use Rattle.log.specs.Demand3.{Forces, Contradicts, costOfSet, In, Unknown, StepHolds, EachHolds, knownAfter, Demand3, Explained}
 use Rattle.log.specs.Contracts.{ForcedBy}
 use Rattle.log.specs.Laws.Reads.{Fits, AllFit, InForm, read-written}
-use Rattle.log.specs.Laws.Lists.{OverVariables, SameLiterals, all-in, in-all, holds-pos, holds-neg, pos-holds, neg-holds, in-yes, list-length-is, list-rises, hold-keeps, hold-avoids, keeps-hold, mask-yes, yes-mask, mask-no, no-mask, opposite-cost, opposite-le, listed-yes, listed-no, listed-zero, same-listed, same-both, same-masks, clash, first-holds, holds-first}
+use Rattle.log.specs.Laws.Lists.{OverVariables, SameLiterals, in-all, holds-pos, holds-neg, pos-holds, neg-holds, in-yes, list-length-is, list-rises, hold-keeps, hold-avoids, keeps-hold, mask-yes, yes-mask, mask-no, no-mask, opposite-cost, opposite-le, listed-yes, listed-no, listed-zero, same-listed, same-both, same-masks, clash, first-holds, holds-first}
 use Rattle.log.specs.Laws.Growth as growth
 
 -- ---- a proper problem with a model

@@ -11,9 +11,9 @@ use Rattle.sets.specs.Sets.{bit, union, diff, count, Within, Apart}
 use Rattle.sets.specs.Laws.Bits.{bit-le, bit-union, bit-diff, member-lt}
 use Rattle.sets.specs.Laws.Count.{ones-proper}
 use Rattle.literals.specs.declared.LiteralSet.{LiteralSet}
-use Rattle.consequence.specs.Meaning.{Theory, contradicts, yesForced, noForced, ModelOf}
+use Rattle.consequence.specs.Meaning.{Theory, contradicts, ModelOf}
 use Rattle.consequence.specs.Laws.Forcing.{Exactly, yes-exactly, no-exactly, forced-model, contradicts-not}
-use Rattle.step.specs.Meaning.{Question, asking, Step, step, stepOf, goals, yesGoals, noGoals}
+use Rattle.step.specs.Meaning.{asking, Step, step, stepOf, goals, yesGoals, noGoals}
 use Rattle.step.specs.IsStep.{Sound, Goal, New, Gained, IsStep}
 use Rattle.step.specs.Theorems.{step-is}
 use Rattle.log.specs.Contracts.{ForcedBy}

@@ -1,15 +1,13 @@
 -- A partial filling with one more variable set: what it keeps, and which models it has. Assumes nothing.
 use mathlib.Core.Path.{_≡_}
-use mathlib.Core.Logic.{by-cases}
 use mathlib.Core.Bool.{Bool, true, false}
 use mathlib.Core.List.{List}
 use Prim.Native.Nat.{ℕ, suc, _+_, _≤_, _<_}
-use native.Mathlib.Decide.{ℕ-discrete}
 use native.Mathlib.Omega.{arith}
 use lib.Count.{ones-le}
 use Rattle.sets.specs.Sets.{bit, union, insert, count, Within, Apart}
-use Rattle.sets.specs.Laws.Bits.{bit-le, bit-insert-same, bit-insert-other, union-lt, insert-lt}
-use Rattle.sets.specs.Laws.Subset.{apart-symm}
+use Rattle.sets.specs.Laws.Bits.{bit-le, bit-insert-same, union-lt, insert-lt}
+use Rattle.sets.specs.Laws.Subset.{apart-symm, within-insert, insert-within, apart-insert, insert-apart}
 use Rattle.sets.specs.Laws.Count.{ones-union, ones-insert}
 use Rattle.sat.specs.Meaning.{Model}
 use Rattle.sat.specs.Contracts.{Posed, digit, SetTo, Assigned, unset}
@@ -21,39 +19,6 @@ assigned-yes p q r = rw p (record { said = (q, r) })
 
 pub assigned-no : {on off v a b : ℕ} {value : Bool} → value ≡ false → a ≡ on → b ≡ insert off v → Assigned on off v value a b
 assigned-no p q r = rw p (record { said = (q, r) })
-
--- ---- one more element
-
--- a set and one more element is within f, if the set is and f has the element
-within-insert : (m v f : ℕ) → Within m f → bit f v ≡ 1 → Within (insert m v) f
-within-insert m v f w e =
-    record {
-      keeps = λ u.
-          by-cases (ℕ-discrete u v) (λ s. rw s (omega (arith, bit-le (insert m v) v))) (λ s. omega (arith, bit-insert-other m v u s, w .keeps u));
-    }
-
-insert-within : (m v f : ℕ) → Within (insert m v) f → Within m f
-insert-within m v f w =
-    record {
-      keeps = λ u.
-          by-cases (ℕ-discrete u v) (λ s. rw s (omega (arith, bit-le m v, bit-insert-same m v, w .keeps v)))
-          (λ s. omega (arith, bit-insert-other m v u s, w .keeps u));
-    }
-
-pub apart-insert : (m v f : ℕ) → Apart m f → bit f v ≡ 0 → Apart (insert m v) f
-apart-insert m v f a e =
-    record {
-      avoids = λ u.
-          by-cases (ℕ-discrete u v) (λ s. rw s (omega (arith, bit-le (insert m v) v))) (λ s. omega (arith, bit-insert-other m v u s, a .avoids u));
-    }
-
-insert-apart : (m v f : ℕ) → Apart (insert m v) f → Apart m f
-insert-apart m v f a =
-    record {
-      avoids = λ u.
-          by-cases (ℕ-discrete u v) (λ s. rw s (omega (arith, bit-le m v, bit-insert-same m v, a .avoids v)))
-          (λ s. omega (arith, bit-insert-other m v u s, a .avoids u));
-    }
 
 -- ---- the models of the partial filling with v set are the models of the old one that give v the value
 

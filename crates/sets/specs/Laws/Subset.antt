@@ -1,12 +1,14 @@
 -- Membership, inclusion and disjointness as tests and as facts about digits. Assumes nothing.
 use mathlib.Core.Path.{_≡_, ap}
 use mathlib.Core.Bool.{true, false}
+use mathlib.Core.Logic.{by-cases}
 use Prim.Native.Nat.{ℕ, _≤_}
+use native.Mathlib.Decide.{ℕ-discrete}
 use native.Mathlib.Omega.{arith}
 use borrow.Author.Tests.{eqb-true, eqb-false, eq-eqb, ne-eqb}
 use lib.Bits.{and-le-r}
-use Rattle.sets.specs.Sets.{bit, has, inter, diff, subset, disjoint, Within, Apart}
-use Rattle.sets.specs.Laws.Bits.{bit-le, bit-zero, bit-inter, bit-diff, ext}
+use Rattle.sets.specs.Sets.{bit, has, inter, diff, insert, subset, disjoint, Within, Apart}
+use Rattle.sets.specs.Laws.Bits.{bit-le, bit-zero, bit-inter, bit-diff, bit-insert-same, bit-insert-other, ext}
 use Rattle.sets.specs.Laws.Least.{some-member}
 
 -- ---- membership
@@ -96,3 +98,39 @@ disjoint-false a b e =
 
 pub apart-symm : (a b : ℕ) → Apart a b → Apart b a
 apart-symm a b p = record { avoids = λ v. omega (arith, p .avoids v) }
+
+-- ---- one more element
+
+-- a set with one more element is within f where the set is and f has the element, and apart from f where f has it not
+pub within-insert : (m v f : ℕ) → Within m f → bit f v ≡ 1 → Within (insert m v) f
+within-insert m v f w e =
+    record {
+      keeps = λ u.
+          by-cases (ℕ-discrete u v) (λ s. rw s (omega (arith, bit-le (insert m v) v))) (λ s. omega (arith, bit-insert-other m v u s, w .keeps u));
+    }
+
+pub insert-within : (m v f : ℕ) → Within (insert m v) f → Within m f
+insert-within m v f w =
+    record {
+      keeps = λ u.
+          by-cases (ℕ-discrete u v) (λ s. rw s (omega (arith, bit-le m v, bit-insert-same m v, w .keeps v)))
+          (λ s. omega (arith, bit-insert-other m v u s, w .keeps u));
+    }
+
+pub apart-insert : (m v f : ℕ) → Apart m f → bit f v ≡ 0 → Apart (insert m v) f
+apart-insert m v f a e =
+    record {
+      avoids = λ u.
+          by-cases (ℕ-discrete u v) (λ s. rw s (omega (arith, bit-le (insert m v) v))) (λ s. omega (arith, bit-insert-other m v u s, a .avoids u));
+    }
+
+pub insert-apart : (m v f : ℕ) → Apart (insert m v) f → Apart m f
+insert-apart m v f a =
+    record {
+      avoids = λ u.
+          by-cases (ℕ-discrete u v) (λ s. rw s (omega (arith, bit-le m v, bit-insert-same m v, a .avoids v)))
+          (λ s. omega (arith, bit-insert-other m v u s, a .avoids u));
+    }
+
+pub in-insert : (m v : ℕ) → Within m (insert m v)
+in-insert m v = insert-within m v (insert m v) (record { keeps = λ u. omega arith })

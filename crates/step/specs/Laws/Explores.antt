@@ -11,7 +11,7 @@ use lib.Bits.{and-le-r}
 use lib.ListN.{length, getD}
 use Rattle.sets.specs.Sets.{bit, full, union, inter, diff, insert, remove, disjoint, Within, Apart, Lowest, width}
 use Rattle.sets.specs.Laws.Bits.{bit-le, bit-high, bit-full, bit-union, bit-inter, bit-diff, union-lt, member-lt}
-use Rattle.sets.specs.Laws.Subset.{within-trans, within-le, disjoint-apart, disjoint-false}
+use Rattle.sets.specs.Laws.Subset.{within-trans, within-le, disjoint-apart, disjoint-false, within-insert}
 use Rattle.sat.specs.Meaning.{Model}
 use Rattle.sat.specs.Contracts.{Posed, digit, Assigned, Searched}
 use Rattle.sat.specs.Laws.Assigns.{model-assigned, assigned-model, posed-assigned}
@@ -19,7 +19,7 @@ use Rattle.sat.specs.Laws.Searches.{searched-first, searched-none}
 use Rattle.sat.specs.declared.SearchResult.{SearchResult}
 use Rattle.sat.specs.declared.SearchResult.the-variants.{Found as LeastFound, Nothing}
 use Rattle.book.specs.Limits.{maxChoices}
-use Rattle.step.specs.Cheapest.{Least, InInterval, Monotone, Hit, insert-within, within-remove, remove-within, insert-more, remove-less, prune, hit, no-member, branch-on, hit-rest}
+use Rattle.step.specs.Cheapest.{Least, InInterval, Monotone, Hit, within-remove, remove-within, insert-more, remove-less, prune, hit, no-member, branch-on, hit-rest}
 use Rattle.step.specs.Contracts.{costRoom, total, keyOf, Small, aimOn, aimOff, Against, deniedBy, Refutes, keyAt, Sought, Exploring, Branching, Explored}
 use Rattle.step.specs.Laws.Costs.{total-le, total-insert}
 use Rattle.step.specs.declared.Aim.{Aim}
@@ -200,7 +200,7 @@ module _ {n : ℕ} {ys ns ws : List ℕ} {aim : Aim} {part : Part} where
   -- the sum of the costs has room
   pub branch-fits : {w v : ℕ} → Branching n ys ns ws aim part w → RowMember n ws part v → part .cost + getD ws v 0 < costRoom
   branch-fits {v = v} b m =
-      let more : Within (insert (part .chosen) v) (part .limit) = insert-within (part .chosen) (part .limit) v (b .exploring .nested) (m .limited) in
+      let more : Within (insert (part .chosen) v) (part .limit) = within-insert (part .chosen) v (part .limit) (b .exploring .nested) (m .limited) in
       let known : Within (insert (part .chosen) v) (union (aim .on) (aim .off)) = within-trans (insert (part .chosen) v) (part .limit) (union (aim .on) (aim .off)) more (b .exploring .known) in
       omega (
         arith,
@@ -216,7 +216,7 @@ module _ {n : ℕ} {ys ns ws : List ℕ} {aim : Aim} {part : Part} where
     branch-with {x} {k} e d =
         record {
           sought = b .exploring .sought;
-          nested = rw e (insert-within (part .chosen) (part .limit) v (b .exploring .nested) (m .limited));
+          nested = rw e (within-insert (part .chosen) v (part .limit) (b .exploring .nested) (m .limited));
           known = b .exploring .known;
           priced = rw (d, e) (omega (arith, b .exploring .priced, total-insert ws n (part .chosen) v (m .below) (m .unused)));
         }
@@ -227,7 +227,7 @@ module _ {n : ℕ} {ys ns ws : List ℕ} {aim : Aim} {part : Part} where
           arith,
           e,
           insert-more (part .chosen) v (m .unused),
-          within-le _ _ (insert-within (part .chosen) (part .limit) v (b .exploring .nested) (m .limited)),
+          within-le _ _ (within-insert (part .chosen) v (part .limit) (b .exploring .nested) (m .limited)),
         )
 
     -- the sets without v

@@ -13,7 +13,7 @@ use Rattle.sets.specs.Laws.Subset.{has-true, has-false, one-has, zero-has, with
 use Rattle.literals.specs.declared.LiteralSet.{LiteralSet}
 use Rattle.sat.specs.Contracts.{Posed}
 use Rattle.book.specs.Limits.{maxChoices, maxCost}
-use Rattle.consequence.specs.Laws.Masks.{to-theory, none-to-theory, none-of-theory}
+use Rattle.consequence.specs.Laws.Masks.{none-to-theory, none-of-theory}
 use Rattle.problem.specs.Problem.{costOf, literalCost}
 use Rattle.step.specs.Meaning.{Question, setCost, literalOf, yesGoals, noGoals, goals, reasonsOn, reasonsOff, againstOn, againstOff, candidateCost}
 use Rattle.step.specs.Cheapest.{Least, InInterval, least-none, least-both, least-same, remove-within, remove-less}

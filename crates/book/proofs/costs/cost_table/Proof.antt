@@ -1,6 +1,5 @@
 use mathlib.Core.Path.{refl}
 use Prim.Native.Nat.{_-_}
-use native.Mathlib.Omega.{arith}
 use borrow.Author.Needs.{needs}
 use Rattle.book.specs.Answer.{tableAnswer, table, padded}
 use Rattle.book.proofs.CheckLaws.{cost-fails, cost-says}
