@@ -81,13 +81,6 @@ pub fn subset(a: u64, b: u64) -> bool
     difference(a, b) == 0
 }
 
-// Whether `a` and `b` have no element in common.
-pub fn disjoint(a: u64, b: u64) -> bool
-    ensures { λ r. ⌜ r ≡ set.disjoint a b ⌝ }
-{
-    intersection(a, b) == 0
-}
-
 // The least element of `m`, which is not empty.
 pub fn lowest(m: u64) -> u32
     requires { ⌜ 0 < m ⌝ }
