@@ -2,6 +2,5 @@ pub mod Limits
 pub mod Format
 pub mod Answer
 pub mod Contracts
-pub mod MaskedRules
 pub mod Orders
 pub mod Readings

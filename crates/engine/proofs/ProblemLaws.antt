@@ -9,7 +9,7 @@ use Rattle.literals.specs.Truth.{yesMask, noMask}
 use Rattle.book.specs.Format.{OrderBook}
 use Rattle.book.specs.Answer.{maskedBook, table}
 use Rattle.book.proofs.WellFormed.{WellFormed}
-use Rattle.problem.specs.Problem.{problemOf, given}
+use Rattle.problem.specs.Problem.{problemOf}
 use Rattle.problem.specs.Masked.{maskedFrom}
 use Rattle.problem.proofs.BookLaws.{proper-book, room, masks-kept, proper-posed}
 use Rattle.consequence.specs.Meaning.{hasModel, consequenceOf, Theory, theoryOf, contradicts, yesForced, noForced}
@@ -34,10 +34,6 @@ module _ {b : OrderBook} (w : WellFormed b) where
   pub theory-same : theoryIn (maskedFrom (maskedBook b)) ≡ theoryOf (problemOf b)
   unfolding problemOf
   theory-same = ap₂ (λ (y : List ℕ) (n : List ℕ). maskTheory (b .header .variables) y n (problemOf b .choices)) yes-rules no-rules ∙ same-theory (problemOf b)
-
-  pub facts-same : maskedFrom (maskedBook b) .facts ≡ given (problemOf b)
-  unfolding problemOf
-  facts-same = refl
 
   -- what the given facts force is the consequence
   pub forced-same : forcedIn (maskedFrom (maskedBook b)) ≡ consequenceOf (problemOf b)

@@ -1,6 +1,6 @@
 -- The next step of a problem and of a book: from what the inner functions found to the call's answer.
 -- Assumes nothing.
-use mathlib.Core.Path.{_≡_, refl, sym, ap₂, _∙_}
+use mathlib.Core.Path.{_≡_, refl, sym, ap₂, subst, _∙_}
 use mathlib.Core.Bool.{Bool, true, false, not, cond, _&&_, false≢true}
 use mathlib.Core.List.{List}
 use Prim.Native.Nat.{ℕ}
@@ -11,21 +11,26 @@ use lib.Seq.{length-take-le}
 use Rattle.sets.specs.Sets.{subset, Within}
 use Rattle.sets.specs.Laws.Subset.{subset-within}
 use Rattle.literals.specs.declared.LiteralSet.{LiteralSet}
-use Rattle.book.specs.Format.{value, OrderBook, readBook}
+use Rattle.book.specs.Format.{Read, value, refused, OrderBook, readBook}
 use Rattle.book.specs.Answer.{maskedBook, table}
-use Rattle.book.proofs.WellFormed.{WellFormed}
+use Rattle.book.proofs.WellFormed.{WellFormed, well-formed}
 use Rattle.problem.specs.Problem.{Problem, problemOf, given}
 use Rattle.problem.specs.Masked.{maskedFrom}
+use Rattle.problem.specs.Proper.{ProperProblem}
+use Rattle.problem.proofs.BookLaws.{proper-book}
 use Rattle.problem.specs.declared.MaskedProblem.{MaskedProblem}
-use Rattle.consequence.specs.Meaning.{hasModel, consequenceOf, Theory, contradicts}
+use Rattle.consequence.specs.Meaning.{hasModel, consequenceOf, Theory, theoryOf, contradicts}
 use Rattle.consequence.specs.Laws.Masks.{of-theory}
-use Rattle.step.specs.Meaning.{asking, questionOf, Answer, nothingLeft, noCandidate, step, stepOf}
+use Rattle.consequence.specs.Laws.Problems.{has-contradicts, yes-consequence, no-consequence}
+use Rattle.step.specs.Meaning.{asking, questionOf, Answer, Step, nothingLeft, noCandidate, step, stepOf}
+use Rattle.step.specs.IsStep.{Sound, IsStep}
+use Rattle.step.specs.Theorems.{step-is, left-known}
 use Rattle.step.specs.Contracts.{Asked, nextOf}
 use Rattle.step.specs.declared.Next.{Next}
 use Rattle.step.specs.declared.Next.the-variants as Next
 use Rattle.log.specs.Contracts.{ForcedBy}
 use Rattle.log.specs.Laws.Growth as growth
-use Rattle.engine.specs.Calls.{withModel, between, stepSays, stepFor, stepAnswer, StepCall}
+use Rattle.engine.specs.Calls.{withModel, between, stepSays, stepFor, stepAnswer, IsNext, StepCall}
 use Rattle.engine.specs.Contracts.{yesIn, noIn, theoryIn, forcedIn, FoundForced, stepIn, Steppable, StepReady}
 use Rattle.engine.specs.declared.ConsequenceAnswer.{ConsequenceAnswer}
 use Rattle.engine.specs.declared.ConsequenceAnswer.the-variants as ConsequenceAnswer
@@ -152,6 +157,65 @@ module _ {b : OrderBook} (w : WellFormed b) where
   unfolding stepIn stepAnswer stepFor withModel answerBy problemOf
   step-says end on off = rw (contradicts-has w) (ap₂ (answerBy (record { yes = on; no = off })) (theory-same w) (forced-same w) ∙ cond-swap (hasModel (problemOf b)) _ _)
 
+-- ---- the step for every filling
+
+-- the parts of a step's answer, put together again
+stepOfParts : ℤ → LiteralSet → LiteralSet → ℕ → Step
+stepOfParts goal reasons new cost =
+    record { goal = goal; reasons-on = reasons .yes; reasons-off = reasons .no; new-on = new .yes; new-off = new .no; cost = cost }
+
+module _ {p : Problem} (w : ProperProblem p) (some : hasModel p ≡ true) where
+  -- a known set between the given facts and the consequence can be asked about
+  sound-between : (known : LiteralSet) → between (given p) known (consequenceOf p) ≡ true → Sound (questionOf p known)
+  unfolding theoryOf
+  sound-between known b =
+      let l = lies _ _ _ b in
+      growth.sound-known (w .choices-below) (record { yes-forced = yes-consequence p (w .facts-proper); no-forced = no-consequence p (w .facts-proper) })
+      (flip _ (sym (has-contradicts p (w .facts-proper)) ∙ some)) (p .costs) known (l .high-yes) (l .high-no)
+    where
+      flip : (x : Bool) → not x ≡ true → x ≡ false
+      flip true e = absurd (false≢true e)
+      flip false e = refl
+
+is-next : (s : List ℕ) (known : LiteralSet) (m : Read OrderBook) → readBook s ≡ m → (r : StepAnswer) → r ≡ stepAnswer (known .yes) (known .no) m → IsNext m known r
+unfolding stepAnswer stepFor withModel stepSays stepOfParts
+is-next s known (refused number place) e r c = c
+is-next s known (value b end) e r c = by (hasModel p) refl (between (given p) known (consequenceOf p)) refl (stepOf (questionOf p known)) refl r c
+  where
+    p : Problem
+    p = problemOf b
+
+    sound : hasModel p ≡ true → between (given p) known (consequenceOf p) ≡ true → Sound (questionOf p known)
+    sound h k = sound-between (proper-book (well-formed s e)) h known k
+
+    says : (a : Answer) → stepOf (questionOf p known) ≡ a → Sound (questionOf p known) → (r : StepAnswer) → r ≡ stepSays a → IsNext (value b end) known r
+    says (step x) d z (StepAnswer.Step g rs new cost) f =
+        let i : x .goal ≡ g = cc in
+        let j : record { yes = x .reasons-on; no = x .reasons-off } ≡ rs = cc in
+        let k : record { yes = x .new-on; no = x .new-off } ≡ new = cc in
+        let l : x .cost ≡ cost = cc in
+        let same : x ≡ stepOfParts g rs new cost = rw (← i, ← j, ← k, ← l) refl in
+        subst (IsStep (questionOf p known)) same (step-is (questionOf p known) z x d)
+    says (step x) d z StepAnswer.NothingLeft f = let n : _≡_ {A = ℕ} 0 1 = cc in absurd (omega arith)
+    says nothingLeft d z (StepAnswer.Step g rs new cost) f = let n : _≡_ {A = ℕ} 0 1 = cc in absurd (omega arith)
+    says nothingLeft d z StepAnswer.NothingLeft f = let l = left-known (questionOf p known) z d in ap₂ (λ (y : ℕ) (n : ℕ). record { yes = y; no = n }) (l .0) (l .1)
+    says noCandidate d z (StepAnswer.Step g rs new cost) f = let n : _≡_ {A = ℕ} 0 1 = cc in absurd (omega arith)
+    says noCandidate d z StepAnswer.NothingLeft f = let n : _≡_ {A = ℕ} 0 1 = cc in absurd (omega arith)
+    says a d z (StepAnswer.Refused number place) f = tt
+
+    refuses : (n : ℕ) (r : StepAnswer) → r ≡ StepAnswer.Refused n 0 → IsNext (value b end) known r
+    refuses n (StepAnswer.Step g rs new cost) f = let z : _≡_ {A = ℕ} 0 1 = cc in absurd (omega arith)
+    refuses n StepAnswer.NothingLeft f = let z : _≡_ {A = ℕ} 0 1 = cc in absurd (omega arith)
+    refuses n (StepAnswer.Refused number place) f = tt
+
+    by : (h : Bool) → hasModel p ≡ h → (k : Bool) → between (given p) known (consequenceOf p) ≡ k → (a : Answer) → stepOf (questionOf p known) ≡ a
+        → (r : StepAnswer) → r ≡ cond h (cond k (stepSays a) (StepAnswer.Refused 10 0)) (StepAnswer.Refused 9 0) → IsNext (value b end) known r
+    by true h true k a d r f = says a d (sound h k) r f
+    by true h false k a d r f = refuses 10 r f
+    by false h k l a d r f = refuses 9 r f
+
+-- ---- the call
+
 no-nine : (a : Answer) {at : ℕ} → stepSays a ≡ StepAnswer.Refused 9 at → ⊥
 unfolding stepSays
 no-nine nothingLeft d = let z : _≡_ {A = ℕ} 0 1 = cc in omega arith
@@ -160,7 +224,7 @@ no-nine (step x) d = let z : _≡_ {A = ℕ} 0 1 = cc in omega arith
 
 pub step-call : {s : List ℕ} {on off : ℕ} {r : StepAnswer} → r ≡ stepAnswer on off (readBook s) → StepCall s on off r
 unfolding stepAnswer stepFor
-step-call {s} {on} {off} {r} e = record { said = e; nine = rw e (nine-exactly (stepFor (record { yes = on; no = off })) StepAnswer.Refused (λ n m p q d. cc) (λ p at d. other p (between (given p) (record { yes = on; no = off }) (consequenceOf p)) d) (Unit {0}) s) }
+step-call {s} {on} {off} {r} e = record { said = e; is-next = is-next s (record { yes = on; no = off }) (readBook s) refl r e; nine = rw e (nine-exactly (stepFor (record { yes = on; no = off })) StepAnswer.Refused (λ n m p q d. cc) (λ p at d. other p (between (given p) (record { yes = on; no = off }) (consequenceOf p)) d) (Unit {0}) s) }
   where
     other : (p : Problem) (k : Bool) {at : ℕ} → cond k (stepSays (stepOf (questionOf p (record { yes = on; no = off })))) (StepAnswer.Refused 10 0) ≡ StepAnswer.Refused 9 at → ⊥
     other p true d = no-nine _ d

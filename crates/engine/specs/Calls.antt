@@ -14,6 +14,7 @@ use Rattle.problem.specs.Problem.{Problem, problemOf, given}
 use Rattle.consequence.specs.Meaning.{models, hasModel, consequenceOf}
 use Rattle.consequence.specs.Demand2.{Demand2, NoFilling}
 use Rattle.step.specs.Meaning.{questionOf, Answer, nothingLeft, noCandidate, step, stepOf}
+use Rattle.step.specs.IsStep.{IsStep}
 use Rattle.log.specs.Format.{Log, logBytes}
 use Rattle.log.specs.Meaning.{Run, done, stuck, runFor, logOf}
 use Rattle.log.specs.Demand3.{Explained}
@@ -39,8 +40,8 @@ abbrev pub NoModelIn : Read OrderBook → Type 0
 NoModelIn (refused number place) = ⊥
 NoModelIn (value b end) = NoFilling (problemOf b)
 
--- 9 is answered exactly for a proper book without a model, wherever nothing that is checked before 9 refuses. One law shows it for each call that can give
--- it (proofs/NineLaws).
+-- 9 is answered exactly for a proper book without a model, wherever nothing that is checked before 9 refuses. One law shows it for each call that gives
+-- it by `withModel`, and one the same for a model (proofs/NineLaws).
 pub record NineExactly {A : Type 0} (refuse : ℕ → ℕ → A) (due : Type 0) (m : Read OrderBook) (r : A) : Type 0 where
   pub nine-none : (place : ℕ) → r ≡ refuse 9 place → NoModelIn m
   pub none-nine : due → NoModelIn m → r ≡ refuse 9 0
@@ -103,9 +104,18 @@ unfoldable pub stepAnswer : ℕ → ℕ → Read OrderBook → StepAnswer
 unfolding withModel
 stepAnswer on off m = withModel (stepFor (record { yes = on; no = off })) StepAnswer.Refused m
 
+-- The step for every filling and every candidate: what is answered is the step, and nothing is left only where the known set is the consequence.
+abbrev pub IsNext : Read OrderBook → LiteralSet → StepAnswer → Type 0
+IsNext (value b end) known (StepAnswer.Step goal reasons new cost) =
+    IsStep (questionOf (problemOf b) known) (record { goal = goal; reasons-on = reasons .yes; reasons-off = reasons .no; new-on = new .yes; new-off = new .no; cost = cost })
+IsNext (value b end) known StepAnswer.NothingLeft = known ≡ consequenceOf (problemOf b)
+IsNext (value b end) known (StepAnswer.Refused number place) = Unit {0}
+IsNext (refused number place) known r = r ≡ StepAnswer.Refused number place
+
 -- The contract of `next_step`.
 pub record StepCall (s : List ℕ) (on off : ℕ) (r : StepAnswer) : Type 0 where
   pub said : r ≡ stepAnswer on off (readBook s)
+  pub is-next : IsNext (readBook s) (record { yes = on; no = off }) r
   pub nine : NineExactly StepAnswer.Refused (Unit {0}) (readBook s) r
 
 -- ---- the log

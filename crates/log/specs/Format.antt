@@ -6,6 +6,7 @@ use lib.Dec.{eqb, leb, ltb}
 use lib.ListN.{length, getD, take, drop}
 use Rattle.sets.specs.Sets.{has}
 use Rattle.literals.specs.Literal.{Literal, variable, ofByte, byteOf}
+use Rattle.book.specs.Limits.{okSize}
 
 -- ---- what a log says
 
@@ -115,10 +116,10 @@ withRecord r (notLog place) = notLog place
 -- The OK record at a place, and no byte more.
 unfoldable pub readEnd : ℕ → List ℕ → LogRead
 readEnd place s =
-    cond (begins OK s && leb 7 (length s))
-    (cond (eqb (length s) 7)
+    cond (begins OK s && leb okSize (length s))
+    (cond (eqb (length s) okSize)
     (isLog (record { records = []; steps = getD s 2 0; total = 16777216 * getD s 3 0 + 65536 * getD s 4 0 + 256 * getD s 5 0 + getD s 6 0 }))
-    (notLog (place + 7)))
+    (notLog (place + okSize)))
     (notLog place)
 
 -- ST records from a place on, and OK. Each ST record has a byte or more, so as many turns as there are bytes are enough.

@@ -14,7 +14,7 @@ unfoldable pub digits : ℕ → ℕ → List ℕ
 digits zero n = []
 digits (suc turns) n = elim (ltb n 10) [ true ↦ (0x30 + n) ∷ [] | false ↦ digits turns (n / 10) ++ ((0x30 + n % 10) ∷ []) ]
 
--- A number in decimal. It has fewer digits than suc n.
+-- A number in decimal. It has at most suc n digits.
 unfoldable pub decimal : ℕ → List ℕ
 decimal n = digits (suc n) n
 

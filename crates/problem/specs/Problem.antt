@@ -12,7 +12,7 @@ use Rattle.book.specs.Format.{OrderBook}
 use Rattle.book.specs.Answer.{table}
 
 -- So many variables; the rules, each a list of literals; the set of the variables that are choices, the others are helpers (element v of the set is
--- variable v + 1); the given facts; and the costs of the literals over choices, a row for each variable, its yes first and then its no.
+-- variable v + 1); the given facts; and the costs of the literals over choices, row by variable, the yes first and then the no.
 pub record Problem : Type 0 where
   pub variables : ℕ
   pub rules : List (List Literal)

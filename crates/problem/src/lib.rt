@@ -1,4 +1,4 @@
-// The problem that goes through the middle: how it is made from a book, here alone.
+// The problem as the code holds it, and how it is made from a book, here alone.
 ghost use Rattle.sets.specs.Sets.{width};
 ghost use mathlib.Core.Path.{_≡_};
 ghost use Prim.Native.Nat.{_≤_};
@@ -22,7 +22,7 @@ pub struct MaskedProblem {
 impl MaskedProblem {
     pub const MAX_RULES: usize = Book::MAX_RULES + Book::MAX_CHOICES;
 
-    pub const RULES_AND_ONE: usize = Book::MAX_RULES + Book::MAX_CHOICES + 1;
+    pub const RULES_AND_ONE: usize = MaskedProblem::MAX_RULES + 1;
 }
 
 // The masks of a book's rules in an array with room for the most rules.

@@ -60,9 +60,9 @@ placed q on off v says =
 -- ---- the step
 
 -- The variables of m are exactly the choices, not among `known`, that have the digit d in every model of the rules and the set.
-pub record New (p : Theory) (on off d known m : ℕ) : Type 0 where
-  pub sound : (v : ℕ) → bit m v ≡ 1 → (bit (p .choices) v ≡ 1) × (bit known v ≡ 0) × ((f : ℕ) → ModelOf p on off f → bit f v ≡ d)
-  pub complete : (v : ℕ) → v < p .variables → bit (p .choices) v ≡ 1 → bit known v ≡ 0 → ((f : ℕ) → ModelOf p on off f → bit f v ≡ d) → bit m v ≡ 1
+pub record New (t : Theory) (on off d known m : ℕ) : Type 0 where
+  pub sound : (v : ℕ) → bit m v ≡ 1 → (bit (t .choices) v ≡ 1) × (bit known v ≡ 0) × ((f : ℕ) → ModelOf t on off f → bit f v ≡ d)
+  pub complete : (v : ℕ) → v < t .variables → bit (t .choices) v ≡ 1 → bit known v ≡ 0 → ((f : ℕ) → ModelOf t on off f → bit f v ≡ d) → bit m v ≡ 1
 
 -- The goal is among the new literals.
 abbrev pub Gained : Step → ℕ → Bool → Type 0

@@ -15,7 +15,7 @@ use Rattle.sat.specs.Laws.Rules.{and-both}
 use Rattle.problem.specs.Problem.{Problem, given}
 use Rattle.consequence.specs.Meaning.{models, hasModel, follows, collect, yesConsequence, noConsequence, consequenceOf, theoryOf, obeying, contradicts, forcesYes, forcesNo, yesForced, noForced, ModelOf}
 use Rattle.consequence.specs.Demand2.{FilledIn, OverChoice, Always, Demand2, NoFilling}
-use Rattle.consequence.specs.Laws.Forcing.{collect-in, collect-true, obeying-model, model-obeying}
+use Rattle.consequence.specs.Laws.Forcing.{collect-in, collect-true, model-obeying}
 
 -- ---- the given facts as a set
 
@@ -39,13 +39,9 @@ module _ (p : Problem) (proper : Proper (p .facts)) where
   unfolding noConsequence follows holds noForced forcesNo theoryOf
   no-consequence = λ i. collect (p .variables) (λ v. has (p .choices) v && everyFilling (p .variables) (λ f. not (models-obeying f i) || not (has f v)))
 
-  -- a model of the set is a model, and the other way round
+  -- a model of the set is a model
   pub model-models : (f : ℕ) → ModelOf (theoryOf p) (given p .yes) (given p .no) f → models p f ≡ true
   model-models f m = models-obeying f ∙ model-obeying (theoryOf p) _ _ f m
-
-  pub models-model : (f : ℕ) → f < 2 ^ p .variables → models p f ≡ true → ModelOf (theoryOf p) (given p .yes) (given p .no) f
-  unfolding theoryOf
-  models-model f h e = obeying-model (theoryOf p) _ _ f h (sym (models-obeying f) ∙ e)
 
 -- ---- for every filling
 

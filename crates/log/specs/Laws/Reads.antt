@@ -28,7 +28,7 @@ module _ {A : Type 0} where
   Each P [] = Unit {0}
   Each P (x ∷ xs) = P x × Each P xs
 
--- A record that bytes can hold: its goal is a signed byte, its lists rise strictly over choices, its cost fits two bytes.
+-- A record whose bytes are read back as it: its goal is over a variable up to 127, its lists rise strictly over choices, its cost fits two bytes.
 pub record Fits (choices : ℕ) (r : StepRecord) : Type 0 where
   pub goal-fits : variable (r .goal) ≤ 127
   pub reasons-rise : risingOver choices 0 (r .reasons) ≡ true
@@ -39,7 +39,7 @@ pub record Fits (choices : ℕ) (r : StepRecord) : Type 0 where
 abbrev pub AllFit : ℕ → List StepRecord → Type 0
 AllFit choices rs = Each (Fits choices) rs
 
--- A log that bytes can hold.
+-- A log whose bytes are read back as it.
 pub record InForm (choices : ℕ) (l : Log) : Type 0 where
   pub each : AllFit choices (l .records)
   pub total-fits : l .total < 4294967296

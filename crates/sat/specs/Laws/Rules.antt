@@ -1,5 +1,5 @@
 -- Rules as masks and as lists of literals, and models as tests. Assumes nothing.
-use mathlib.Core.Path.{_≡_, refl, sym, ap₂, _∙_}
+use mathlib.Core.Path.{_≡_, refl, ap₂}
 use mathlib.Core.Bool.{Bool, true, false, _&&_, false≢true}
 use mathlib.Core.List.{List, [], _∷_, map}
 use Prim.Native.Nat.{ℕ, zero, suc, _^_, _≤_, _<_, suc-le-suc}
@@ -9,13 +9,12 @@ use lib.ListN.{length, getD}
 use lib.Pow.{pow-pos}
 use Rattle.sets.specs.Sets.{subset, disjoint, Within, Apart}
 use Rattle.sets.specs.Laws.Bits.{union-lt, single-lt}
-use Rattle.sets.specs.Laws.Subset.{subset-within, within-subset, disjoint-apart, apart-disjoint, disjoint-false}
+use Rattle.sets.specs.Laws.Subset.{subset-within, within-subset, disjoint-apart, apart-disjoint}
 use Rattle.literals.specs.Literal.{Literal, variable}
 use Rattle.literals.specs.Truth.{yesBit, noBit, yesMask, noMask, obeysMasks, allHoldMasks}
-use Rattle.literals.specs.Laws.{masks-obey, masks-hold, Proper}
-use Rattle.sat.specs.Meaning.{someFilling, obeysRules, isModel, obeysAll, extends, Model, NoModel}
+use Rattle.literals.specs.Laws.{masks-obey}
+use Rattle.sat.specs.Meaning.{obeysRules, obeysAll, extends}
 use Rattle.sat.specs.Contracts.{MasksBelow}
-use Rattle.sat.specs.Laws.Fillings.{witness-some, none-some}
 
 pub and-both : (a b : Bool) → a && b ≡ true → (a ≡ true) × (b ≡ true)
 and-both true b e = (refl, e)
@@ -48,11 +47,6 @@ pub masks-rules : (f : ℕ) (rs : List (List Literal)) → obeysAll f (map yesMa
 unfolding obeysAll obeysRules
 masks-rules f [] = refl
 masks-rules f (r ∷ rs) = ap₂ (λ x y. x && y) (masks-obey f r) (masks-rules f rs)
-
-pub masks-model : (f : ℕ) (rs : List (List Literal)) (facts : List Literal) → Proper facts
-    → obeysAll f (map yesMask rs) (map noMask rs) && allHoldMasks f (yesMask facts) (noMask facts) ≡ isModel rs facts f
-unfolding isModel
-masks-model f rs facts h = ap₂ (λ x y. x && y) (masks-rules f rs) (masks-hold f facts h)
 
 -- ---- masks of n variables
 
@@ -92,7 +86,7 @@ unfolding noMask
 noMask-lt n [] h = pow-pos n
 noMask-lt n (l ∷ ls) h = union-lt n (noBit l) (noMask ls) (noBit-lt n l (h .0)) (noMask-lt n ls (h .1))
 
--- ---- a model as a test
+-- ---- a partial filling extended, as a test
 
 pub extends-both : (on off f : ℕ) → extends on off f ≡ true → Within on f × Apart off f
 unfolding extends allHoldMasks
@@ -101,54 +95,3 @@ extends-both on off f e = let s = and-both (subset on f) (disjoint off f) e in (
 pub both-extends : (on off f : ℕ) → Within on f → Apart off f → extends on off f ≡ true
 unfolding extends allHoldMasks
 both-extends on off f w a = both-and (subset on f) (disjoint off f) (within-subset on f w) (apart-disjoint off f a)
-
-pub test-model : {n : ℕ} {ys ns : List ℕ} {on off f : ℕ} → f < 2 ^ n → obeysAll f ys ns && extends on off f ≡ true → Model n ys ns on off f
-test-model {n} {ys} {ns} {on} {off} {f} h e =
-    let s = and-both (obeysAll f ys ns) (extends on off f) e in
-    let x = extends-both on off f (s .1) in
-    record { below = h; keeps = x .0; avoids = x .1; obeyed = s .0 }
-
-pub model-test : {n : ℕ} {ys ns : List ℕ} {on off f : ℕ} → Model n ys ns on off f → obeysAll f ys ns && extends on off f ≡ true
-model-test {n} {ys} {ns} {on} {off} {f} m = both-and (obeysAll f ys ns) (extends on off f) (m .obeyed) (both-extends on off f (m .keeps) (m .avoids))
-
--- the tests that some filling is a model
-pub model-some : {n : ℕ} {ys ns : List ℕ} {on off f : ℕ} → Model n ys ns on off f → someFilling n (λ g. obeysAll g ys ns && extends on off g) ≡ true
-model-some {n} {ys} {ns} {on} {off} {f} m = witness-some n (λ g. obeysAll g ys ns && extends on off g) f (m .below) (model-test m)
-
-pub no-model-some : {n : ℕ} {ys ns : List ℕ} {on off : ℕ} → NoModel n ys ns on off → someFilling n (λ g. obeysAll g ys ns && extends on off g) ≡ false
-no-model-some {n} {ys} {ns} {on} {off} m =
-    none-some n (λ g. obeysAll g ys ns && extends on off g) (λ f h. go f h (obeysAll f ys ns && extends on off f) refl)
-  where
-    go : (f : ℕ) → f < 2 ^ n → (b : Bool) → obeysAll f ys ns && extends on off f ≡ b → obeysAll f ys ns && extends on off f ≡ false
-    go f h false e = e
-    go f h true e = absurd (m .none f (test-model h e))
-
--- a variable that is both on and off
-pub overlap-none : {n : ℕ} {ys ns : List ℕ} {on off : ℕ} → disjoint on off ≡ false → NoModel n ys ns on off
-overlap-none {n} {ys} {ns} {on} {off} e =
-    let w = disjoint-false on off e in
-    record { none = λ f m. omega (arith, w .1, w .2, m .keeps .keeps (w .0), m .avoids .avoids (w .0)) }
-
--- ---- models of lists of rules and facts, by their masks
-
-module _ (n : ℕ) (rs : List (List Literal)) (facts : List Literal) (proper : Proper facts) where
-  is-model : (f : ℕ) → obeysAll f (map yesMask rs) (map noMask rs) && extends (yesMask facts) (noMask facts) f ≡ isModel rs facts f
-  unfolding extends
-  is-model f = masks-model f rs facts proper
-
-  -- a model of the masks is a model, and the other way round
-  pub model-is : (f : ℕ) → Model n (map yesMask rs) (map noMask rs) (yesMask facts) (noMask facts) f → isModel rs facts f ≡ true
-  model-is f m = sym (is-model f) ∙ model-test m
-
-  pub is-a-model : (f : ℕ) → f < 2 ^ n → isModel rs facts f ≡ true → Model n (map yesMask rs) (map noMask rs) (yesMask facts) (noMask facts) f
-  is-a-model f h e = test-model h (is-model f ∙ e)
-
-  pub found-some : (f : ℕ) → Model n (map yesMask rs) (map noMask rs) (yesMask facts) (noMask facts) f → someFilling n (isModel rs facts) ≡ true
-  found-some f m = witness-some n (isModel rs facts) f (m .below) (model-is f m)
-
-  pub nothing-some : NoModel n (map yesMask rs) (map noMask rs) (yesMask facts) (noMask facts) → someFilling n (isModel rs facts) ≡ false
-  nothing-some m = none-some n (isModel rs facts) (λ f h. go f h (isModel rs facts f) refl)
-    where
-      go : (f : ℕ) → f < 2 ^ n → (b : Bool) → isModel rs facts f ≡ b → isModel rs facts f ≡ false
-      go f h false e = e
-      go f h true e = absurd (m .none f (is-a-model f h e))
