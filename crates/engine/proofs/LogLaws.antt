@@ -9,6 +9,7 @@ use lib.Dec.{ltb}
 use lib.ListN.{length, drop}
 use lib.Seq.{take-at}
 use borrow.Author.Tests.{lt-ltb, le-ltb, ltb-true}
+use Rattle.sets.specs.Laws.Subset.{within-refl}
 use Rattle.literals.specs.declared.LiteralSet.{LiteralSet}
 use Rattle.book.specs.Limits.{maxLog}
 use Rattle.book.specs.Format.{Read, value, refused, OrderBook, readBook}
@@ -21,15 +22,14 @@ use Rattle.problem.proofs.BookLaws.{proper-book}
 use Rattle.consequence.specs.Meaning.{models, hasModel, Theory, contradicts}
 use Rattle.consequence.specs.Laws.Problems.{no-filling}
 use Rattle.step.specs.Meaning.{asking, Step}
+use Rattle.step.specs.Laws.Given as facts
 use Rattle.log.specs.Format.{Log, logBytes, isLog, readLog}
-use Rattle.log.specs.Meaning.{Run, done, stuck, runOf, runFor, logOf}
+use Rattle.log.specs.Meaning.{runOf, runFor, logOf}
 use Rattle.log.specs.Demand3.{Explained}
-use Rattle.log.specs.Contracts.{totalOf, WrittenAs}
-use Rattle.log.specs.Laws.Explains.{explained, reads-back, not-stuck-for}
-use Rattle.log.specs.Laws.Growth as growth
+use Rattle.log.specs.Contracts.{totalOf, LogWritten}
+use Rattle.log.specs.Laws.Explains.{explained, reads-back}
 use Rattle.log.specs.declared.Written.{Written}
-use Rattle.log.specs.declared.Written.the-variants as Written
-use Rattle.engine.specs.Calls.{withModel, NineExactly, LogOutcome, logged, refusedWith, ofRun, logOutcome, logAnswer, bufferAfter, LoggedAs, Explains, LogCall}
+use Rattle.engine.specs.Calls.{withModel, NineExactly, LogOutcome, logged, refusedWith, logOutcome, logAnswer, bufferAfter, LoggedAs, Explains, LogCall}
 use Rattle.engine.specs.Contracts.{theoryIn, forcedIn, Loggable, LogReady, logIn}
 use Rattle.engine.specs.declared.LogAnswer.{LogAnswer}
 use Rattle.engine.specs.declared.LogAnswer.the-variants as LogAnswer
@@ -39,24 +39,10 @@ use Rattle.engine.proofs.StepLaws.{forced-by, asked-of}
 
 -- ---- what `log::write` answers, passed on
 
-module _ (run : Run) {before after : List ℕ} {r : Written} where
-  pub written-log : {len steps total : ℕ} → WrittenAs run before after r → r ≡ Written.Log len steps total → LoggedAs (ofRun run) before after (LogAnswer.Written len steps total)
-  unfolding ofRun logAnswer bufferAfter
-  written-log {len} {steps} {total} w e = go run w
-    where
-      go : (run : Run) → WrittenAs run before after r → LoggedAs (ofRun run) before after (LogAnswer.Written len steps total)
-      go (done ss) w =
-          let a : Written.Log len steps total ≡ Written.Log (length (logBytes (logOf ss))) (length ss) (totalOf ss) = sym e ∙ w .said .answered in
-          record { answered = cc; buffer = w .said .buffer }
-      go stuck w = let a : Written.Log len steps total ≡ Written.Stuck = sym e ∙ w .said .1 in let z : _≡_ {A = ℕ} 0 1 = cc in absurd (omega arith)
-
-  pub written-stuck : WrittenAs run before after r → r ≡ Written.Stuck → LoggedAs (ofRun run) before after (LogAnswer.Refused 11 0)
-  unfolding ofRun logAnswer bufferAfter
-  written-stuck w e = go run w
-    where
-      go : (run : Run) → WrittenAs run before after r → LoggedAs (ofRun run) before after (LogAnswer.Refused 11 0)
-      go (done ss) w = let a : Written.Stuck ≡ Written.Log (length (logBytes (logOf ss))) (length ss) (totalOf ss) = sym e ∙ w .said .answered in let z : _≡_ {A = ℕ} 0 1 = cc in absurd (omega arith)
-      go stuck w = record { answered = refl; buffer = w .said .0 }
+pub logged-written : {ss : List Step} {before after : List ℕ} {r : Written} → LogWritten ss before after r
+    → LoggedAs (logged (logOf ss)) before after (LogAnswer.Written (r .size) (r .steps) (r .total))
+unfolding logAnswer bufferAfter
+logged-written w = record { answered = rw (w .answered) refl; buffer = w .buffer }
 
 -- ---- what the log asks
 
@@ -67,7 +53,13 @@ module _ (p : MaskedProblem) (costs : List (List ℕ)) (w : Loggable p costs) (s
       record {
         searchable = w .steppable .searchable;
         asked = record {
-          asked = asked-of p costs (w .steppable) some (p .facts) (growth.yes-given below (forced-by p) (w .yes-facts)) (growth.no-given below (forced-by p) (w .no-facts));
+          asked = asked-of p costs (w .steppable) some (p .facts)
+              (record {
+                facts-yes = within-refl _;
+                facts-no = within-refl _;
+                known-yes = facts.yes-given below (forced-by p) (w .yes-facts);
+                known-no = facts.no-given below (forced-by p) (w .no-facts);
+              });
           forced = forced-by p;
         };
       }
@@ -83,7 +75,7 @@ logged-refused number place before = record { answered = refl; buffer = refl }
 module _ {b : OrderBook} (w : WellFormed b) where
   -- the outcome as a function of the theory and of what is forced
   outcomeBy : Theory → LiteralSet → LogOutcome
-  outcomeBy t c = cond (not (hasModel (problemOf b))) (refusedWith 9 0) (ofRun (runOf (asking t (problemOf b .costs) c (given (problemOf b)))))
+  outcomeBy t c = cond (not (hasModel (problemOf b))) (refusedWith 9 0) (logged (logOf (runOf (asking t (problemOf b .costs) c (given (problemOf b))))))
 
   pub log-says : (end room : ℕ) → maxLog ≤ room → logIn (maskedFrom (maskedBook b)) (table (b .costs)) ≡ logOutcome room (value b end)
   unfolding logIn logOutcome withModel runFor outcomeBy problemOf
@@ -92,10 +84,10 @@ module _ {b : OrderBook} (w : WellFormed b) where
 -- ---- demand 3
 
 -- of the bytes that the buffer begins with
-explains-done : (b : OrderBook) (end : ℕ) (ss : List Step) {before after : List ℕ} {r : LogAnswer} → Explained (problemOf b) (logBytes (logOf ss)) (length ss) (totalOf ss)
+explains-logged : (b : OrderBook) (end : ℕ) (ss : List Step) {before after : List ℕ} {r : LogAnswer} → Explained (problemOf b) (logBytes (logOf ss)) (length ss) (totalOf ss)
     → LoggedAs (logged (logOf ss)) before after r → Explains (value b end) before after r
 unfolding logAnswer bufferAfter
-explains-done b end ss {before} x l = rw (l .answered, l .buffer, take-at (logBytes (logOf ss)) (drop (length (logBytes (logOf ss))) before) _ refl) x
+explains-logged b end ss {before} x l = rw (l .answered, l .buffer, take-at (logBytes (logOf ss)) (drop (length (logBytes (logOf ss))) before) _ refl) x
 
 -- a refusal where there is no model or no room
 explains-none : (b : OrderBook) (end : ℕ) {n q : ℕ} {before after : List ℕ} {r : LogAnswer}
@@ -106,32 +98,26 @@ explains-none b end h l = rw (l .answered) h
 
 module _ {b : OrderBook} (w : WellFormed b) (end : ℕ) {before after : List ℕ} {r : LogAnswer} where
   explains : LoggedAs (logOutcome (length before) (value b end)) before after r → Explains (value b end) before after r
-  unfolding logOutcome withModel ofRun
-  explains l = room (ltb (length before) maxLog) (hasModel (problemOf b)) refl refl (runFor (problemOf b)) refl l
+  unfolding logOutcome withModel
+  explains l = room (ltb (length before) maxLog) (hasModel (problemOf b)) refl refl l
     where
-      room : (t h : Bool) → ltb (length before) maxLog ≡ t → hasModel (problemOf b) ≡ h → (run : Run) → runFor (problemOf b) ≡ run
-          → LoggedAs (cond t (refusedWith 8 0) (cond h (ofRun run) (refusedWith 9 0))) before after r → Explains (value b end) before after r
-      room true h t m run e l = explains-none b end (λ f x y k. omega (arith, k, ltb-true (length before) maxLog t)) l
-      room false false t m run e l = explains-none b end (λ f x y k. no-filling (problemOf b) m .none f x y) l
-      room false true t m stuck e l = explains-none b end (λ f x y k. not-stuck-for (proper-book w) m e) l
-      room false true t m (done ss) e l = explains-done b end ss (explained (proper-book w) m ss e) l
+      room : (t h : Bool) → ltb (length before) maxLog ≡ t → hasModel (problemOf b) ≡ h
+          → LoggedAs (cond t (refusedWith 8 0) (cond h (logged (logOf (runFor (problemOf b)))) (refusedWith 9 0))) before after r → Explains (value b end) before after r
+      room true h t m l = explains-none b end (λ f x y k. omega (arith, k, ltb-true (length before) maxLog t)) l
+      room false false t m l = explains-none b end (λ f x y k. no-filling (problemOf b) m .none f x y) l
+      room false true t m l = explains-logged b end (runFor (problemOf b)) (explained (proper-book w) m) l
 
 -- ---- the bytes of the log that the call comes to are read as that log
 
 pub outcome-reads : (s : List ℕ) (room : ℕ) {l : Log} → logOutcome room (readBook s) ≡ logged l → (choices : ℕ) × (readLog choices (logBytes l) ≡ isLog l)
-unfolding logOutcome withModel ofRun
+unfolding logOutcome withModel
 outcome-reads s room {l} o = go (readBook s) refl o
   where
-    at-run : (p : Problem) (run : Run) → ((ss : List Step) → run ≡ done ss → readLog (p .choices) (logBytes (logOf ss)) ≡ isLog (logOf ss)) → ofRun run ≡ logged l
-        → (choices : ℕ) × (readLog choices (logBytes l) ≡ isLog l)
-    at-run p (done ss) h d = let same : logOf ss ≡ l = cc in (p .choices, rw same at (h ss refl))
-    at-run p stuck h d = let z : _≡_ {A = ℕ} 0 1 = cc in absurd (omega arith)
-
-    at-book : (b : OrderBook) → WellFormed b → (t h : Bool) → hasModel (problemOf b) ≡ h → cond t (refusedWith 8 0) (cond h (ofRun (runFor (problemOf b))) (refusedWith 9 0)) ≡ logged l
+    at-book : (b : OrderBook) → WellFormed b → (t h : Bool) → hasModel (problemOf b) ≡ h → cond t (refusedWith 8 0) (cond h (logged (logOf (runFor (problemOf b)))) (refusedWith 9 0)) ≡ logged l
         → (choices : ℕ) × (readLog choices (logBytes l) ≡ isLog l)
     at-book b w true h m d = let z : _≡_ {A = ℕ} 0 1 = cc in absurd (omega arith)
     at-book b w false false m d = let z : _≡_ {A = ℕ} 0 1 = cc in absurd (omega arith)
-    at-book b w false true m d = at-run (problemOf b) (runFor (problemOf b)) (λ ss e. reads-back (proper-book w) m ss e) d
+    at-book b w false true m d = let same : logOf (runFor (problemOf b)) ≡ l = cc in (problemOf b .choices, rw same at (reads-back (proper-book w) m))
 
     go : (m : Read OrderBook) → readBook s ≡ m → logOutcome room m ≡ logged l → (choices : ℕ) × (readLog choices (logBytes l) ≡ isLog l)
     go (refused n p) e d = let z : _≡_ {A = ℕ} 0 1 = cc in absurd (omega arith)
@@ -141,30 +127,25 @@ outcome-reads s room {l} o = go (readBook s) refl o
 
 -- after 8, the answer goes by `withModel`
 module _ (s : List ℕ) (room : ℕ) where
-  other : (run : Run) {at : ℕ} → logAnswer (ofRun run) ≡ LogAnswer.Refused 9 at → ⊥
-  unfolding logAnswer ofRun
-  other (done ss) d = let z : _≡_ {A = ℕ} 0 1 = cc in omega arith
-  other stuck d = let z : _≡_ {A = ℕ} 11 9 = cc in omega arith
-
   log-nine : NineExactly LogAnswer.Refused (maxLog ≤ room) (readBook s) (logAnswer (logOutcome room (readBook s)))
   unfolding withModel logOutcome logAnswer
-  log-nine = go (readBook s) refl (nine-exactly (λ p. logAnswer (ofRun (runFor p))) LogAnswer.Refused (λ n m p q d. cc) (λ p at d. other (runFor p) d) (maxLog ≤ room) s)
+  log-nine = go (readBook s) refl (nine-exactly (λ p. logAnswer (logged (logOf (runFor p)))) LogAnswer.Refused (λ n m p q d. cc) (λ p at d. let z : _≡_ {A = ℕ} 0 1 = cc in absurd (omega arith)) (maxLog ≤ room) s)
     where
       both : (h : Bool) (x : LogOutcome) → logAnswer (cond h x (refusedWith 9 0)) ≡ cond h (logAnswer x) (LogAnswer.Refused 9 0)
       both true x = refl
       both false x = refl
 
       at-book : (b : OrderBook) (end : ℕ) (t : Bool) → ltb room maxLog ≡ t
-          → NineExactly LogAnswer.Refused (maxLog ≤ room) (value b end) (cond (hasModel (problemOf b)) (logAnswer (ofRun (runFor (problemOf b)))) (LogAnswer.Refused 9 0))
-          → NineExactly LogAnswer.Refused (maxLog ≤ room) (value b end) (logAnswer (cond t (refusedWith 8 0) (cond (hasModel (problemOf b)) (ofRun (runFor (problemOf b))) (refusedWith 9 0))))
+          → NineExactly LogAnswer.Refused (maxLog ≤ room) (value b end) (cond (hasModel (problemOf b)) (logAnswer (logged (logOf (runFor (problemOf b))))) (LogAnswer.Refused 9 0))
+          → NineExactly LogAnswer.Refused (maxLog ≤ room) (value b end) (logAnswer (cond t (refusedWith 8 0) (cond (hasModel (problemOf b)) (logged (logOf (runFor (problemOf b)))) (refusedWith 9 0))))
       at-book b end true e x =
           record {
             nine-none = λ at d. let z : _≡_ {A = ℕ} 8 9 = cc in absurd (omega arith);
             none-nine = λ l n. absurd (omega (arith, ltb-true room maxLog e));
           }
-      at-book b end false e x = rw (both (hasModel (problemOf b)) (ofRun (runFor (problemOf b)))) x
+      at-book b end false e x = rw (both (hasModel (problemOf b)) (logged (logOf (runFor (problemOf b))))) x
 
-      go : (m : Read OrderBook) → readBook s ≡ m → NineExactly LogAnswer.Refused (maxLog ≤ room) m (withModel (λ p. logAnswer (ofRun (runFor p))) LogAnswer.Refused m)
+      go : (m : Read OrderBook) → readBook s ≡ m → NineExactly LogAnswer.Refused (maxLog ≤ room) m (withModel (λ p. logAnswer (logged (logOf (runFor p)))) LogAnswer.Refused m)
           → NineExactly LogAnswer.Refused (maxLog ≤ room) m (logAnswer (logOutcome room m))
       go (refused n p) e x = x
       go (value b end) e x = at-book b end (ltb room maxLog) refl x

@@ -3,13 +3,13 @@
 use mathlib.Core.Path.{_≡_, refl, sym, ap₂, subst, _∙_}
 use mathlib.Core.Bool.{Bool, true, false, not, cond, _&&_, false≢true}
 use mathlib.Core.List.{List}
-use Prim.Native.Nat.{ℕ}
+use Prim.Native.Nat.{ℕ, _^_, _<_}
 use native.Mathlib.Omega.{arith}
 use borrow.Author.Tests.{not-true, not-false}
 use lib.IntN.{ℤ}
 use lib.Seq.{length-take-le}
 use Rattle.sets.specs.Sets.{subset, Within}
-use Rattle.sets.specs.Laws.Subset.{subset-within}
+use Rattle.sets.specs.Laws.Subset.{subset-within, within-subset}
 use Rattle.literals.specs.declared.LiteralSet.{LiteralSet}
 use Rattle.book.specs.Format.{Read, value, refused, OrderBook, readBook}
 use Rattle.book.specs.Answer.{maskedBook, table}
@@ -19,17 +19,16 @@ use Rattle.problem.specs.Masked.{maskedFrom}
 use Rattle.problem.specs.Proper.{ProperProblem}
 use Rattle.problem.proofs.BookLaws.{proper-book}
 use Rattle.problem.specs.declared.MaskedProblem.{MaskedProblem}
-use Rattle.consequence.specs.Meaning.{hasModel, consequenceOf, Theory, theoryOf, contradicts}
-use Rattle.consequence.specs.Laws.Masks.{of-theory}
-use Rattle.consequence.specs.Laws.Problems.{has-contradicts, yes-consequence, no-consequence}
-use Rattle.step.specs.Meaning.{asking, questionOf, Answer, Step, nothingLeft, noCandidate, step, stepOf}
-use Rattle.step.specs.IsStep.{Sound, IsStep}
+use Rattle.consequence.specs.Meaning.{models, hasModel, consequenceOf, Theory, theoryOf, contradicts}
+use Rattle.consequence.specs.Laws.Masks.{to-theory, of-theory}
+use Rattle.consequence.specs.Laws.Problems.{has-contradicts, yes-consequence, no-consequence, no-filling}
+use Rattle.step.specs.Meaning.{asking, questionOf, Answer, Step, nothingLeft, step, stepOf}
+use Rattle.step.specs.IsStep.{ForcedBy, Between, Sound, IsStep}
 use Rattle.step.specs.Theorems.{step-is, left-known}
 use Rattle.step.specs.Contracts.{Asked, nextOf}
 use Rattle.step.specs.declared.Next.{Next}
 use Rattle.step.specs.declared.Next.the-variants as Next
-use Rattle.log.specs.Contracts.{ForcedBy}
-use Rattle.log.specs.Laws.Growth as growth
+use Rattle.step.specs.Laws.Given as facts
 use Rattle.engine.specs.Calls.{withModel, between, stepSays, stepFor, stepAnswer, IsNext, StepCall}
 use Rattle.engine.specs.Contracts.{yesIn, noIn, theoryIn, forcedIn, FoundForced, stepIn, Steppable, StepReady}
 use Rattle.engine.specs.declared.ConsequenceAnswer.{ConsequenceAnswer}
@@ -57,7 +56,6 @@ module _ (a : Answer) {r : Next} where
     where
       go : (a : Answer) → r ≡ nextOf a → StepAnswer.Step g x y k ≡ stepSays a
       go nothingLeft e = let z : _≡_ {A = ℕ} 0 1 = cc in absurd (omega arith)
-      go noCandidate e = let z : _≡_ {A = ℕ} 0 1 = cc in absurd (omega arith)
       go (step s) e = cc
 
   pub says-nothing : r ≡ nextOf a → r ≡ Next.NothingLeft → StepAnswer.NothingLeft ≡ stepSays a
@@ -66,16 +64,6 @@ module _ (a : Answer) {r : Next} where
     where
       go : (a : Answer) → r ≡ nextOf a → StepAnswer.NothingLeft ≡ stepSays a
       go nothingLeft e = refl
-      go noCandidate e = let z : _≡_ {A = ℕ} 0 1 = cc in absurd (omega arith)
-      go (step s) e = let z : _≡_ {A = ℕ} 0 1 = cc in absurd (omega arith)
-
-  pub says-none : r ≡ nextOf a → r ≡ Next.NoCandidate → StepAnswer.Refused 11 0 ≡ stepSays a
-  unfolding stepSays
-  says-none e f = go a e
-    where
-      go : (a : Answer) → r ≡ nextOf a → StepAnswer.Refused 11 0 ≡ stepSays a
-      go nothingLeft e = let z : _≡_ {A = ℕ} 0 1 = cc in absurd (omega arith)
-      go noCandidate e = refl
       go (step s) e = let z : _≡_ {A = ℕ} 0 1 = cc in absurd (omega arith)
 
 -- ---- what the given facts force
@@ -94,55 +82,55 @@ forced-by p = record { yes-forced = refl; no-forced = refl }
 
 -- ---- what the next step asks
 
-record Lies (facts known forced : LiteralSet) : Type 0 where
-  low-yes : Within (facts .yes) (known .yes)
-  low-no : Within (facts .no) (known .no)
-  high-yes : Within (known .yes) (forced .yes)
-  high-no : Within (known .no) (forced .no)
-
-lies : (facts known forced : LiteralSet) → between facts known forced ≡ true → Lies facts known forced
+lies : (facts known forced : LiteralSet) → between facts known forced ≡ true → Between facts known forced
 unfolding between
 lies facts known forced e = go (subset (facts .yes) (known .yes)) (subset (facts .no) (known .no)) (subset (known .yes) (forced .yes)) (subset (known .no) (forced .no)) refl refl refl refl e
   where
     go : (w x y z : Bool) → subset (facts .yes) (known .yes) ≡ w → subset (facts .no) (known .no) ≡ x → subset (known .yes) (forced .yes) ≡ y → subset (known .no) (forced .no) ≡ z
-        → w && x && y && z ≡ true → Lies facts known forced
-    go true true true true a b c d t = record { low-yes = subset-within _ _ a; low-no = subset-within _ _ b; high-yes = subset-within _ _ c; high-no = subset-within _ _ d }
+        → w && x && y && z ≡ true → Between facts known forced
+    go true true true true a b c d t = record { facts-yes = subset-within _ _ a; facts-no = subset-within _ _ b; known-yes = subset-within _ _ c; known-no = subset-within _ _ d }
     go true true true false a b c d t = absurd (false≢true t)
     go true true false z a b c d t = absurd (false≢true t)
     go true false y z a b c d t = absurd (false≢true t)
     go false x y z a b c d t = absurd (false≢true t)
 
+lies-between : (facts known forced : LiteralSet) → Between facts known forced → between facts known forced ≡ true
+unfolding between
+lies-between facts known forced b =
+    rw (within-subset _ _ (b .facts-yes), within-subset _ _ (b .facts-no), within-subset _ _ (b .known-yes), within-subset _ _ (b .known-no)) refl
+
 module _ (p : MaskedProblem) (costs : List (List ℕ)) (w : Steppable p costs) (some : contradicts (theoryIn p) (p .facts .yes) (p .facts .no) ≡ false) where
-  pub asked-of : (known : LiteralSet) → Within (known .yes) (forcedIn p .yes) → Within (known .no) (forcedIn p .no)
+  pub asked-of : (known : LiteralSet) → Between (p .facts) known (forcedIn p)
       → Asked (p .variables) (yesIn p) (noIn p) (p .choices) costs (forcedIn p) known
-  asked-of known y n =
+  asked-of known b =
       let below = w .searchable .choices-below in
       let forced = forced-by p in
-      let model = growth.consequence-has below forced some in
+      let model = facts.consequence-has below forced some in
       record {
         posed = record {
           small = w .searchable .posed .small;
           paired = w .searchable .posed .paired;
           yes-masks = w .searchable .posed .yes-masks;
           no-masks = w .searchable .posed .no-masks;
-          on-below = growth.yes-below below forced;
-          off-below = growth.no-below below forced;
-          apart = growth.consequence-apart below forced some;
+          on-below = facts.yes-below below forced;
+          off-below = facts.no-below below forced;
+          apart = facts.consequence-apart below forced some;
         };
         few = w .few;
         short = omega (arith, length-take-le (p .rules) (p .yes) (omega (arith, w .searchable .few-rules, w .searchable .yes-room)), w .searchable .few-rules);
         choices-below = below;
         rows = w .rows;
-        yes-choices = growth.yes-choices below forced;
-        no-choices = growth.no-choices below forced;
-        known-yes = y;
-        known-no = n;
+        yes-choices = facts.yes-choices below forced;
+        no-choices = facts.no-choices below forced;
+        known-yes = b .known-yes;
+        known-no = b .known-no;
         model = (model .0, of-theory _ (model .1));
+        forces = λ f m. of-theory _ (facts.known-forces forced b f (to-theory _ m));
         cheap = w .cheap;
       }
 
   pub stepping : (known : LiteralSet) → between (p .facts) known (forcedIn p) ≡ true → StepReady p costs (forcedIn p) known
-  stepping known b = let l = lies _ _ _ b in record { searchable = w .searchable; asked = asked-of known (l .high-yes) (l .high-no) }
+  stepping known b = record { searchable = w .searchable; asked = asked-of known (lies _ _ _ b) }
 
 -- ---- a book
 
@@ -169,9 +157,8 @@ module _ {p : Problem} (w : ProperProblem p) (some : hasModel p ≡ true) where
   sound-between : (known : LiteralSet) → between (given p) known (consequenceOf p) ≡ true → Sound (questionOf p known)
   unfolding theoryOf
   sound-between known b =
-      let l = lies _ _ _ b in
-      growth.sound-known (w .choices-below) (record { yes-forced = yes-consequence p (w .facts-proper); no-forced = no-consequence p (w .facts-proper) })
-      (flip _ (sym (has-contradicts p (w .facts-proper)) ∙ some)) (p .costs) known (l .high-yes) (l .high-no)
+      facts.between-sound (w .choices-below) (record { yes-forced = yes-consequence p (w .facts-proper); no-forced = no-consequence p (w .facts-proper) })
+      (flip _ (sym (has-contradicts p (w .facts-proper)) ∙ some)) (p .costs) (lies _ _ _ b)
     where
       flip : (x : Bool) → not x ≡ true → x ≡ false
       flip true e = absurd (false≢true e)
@@ -199,27 +186,26 @@ is-next s known (value b end) e r c = by (hasModel p) refl (between (given p) kn
     says (step x) d z StepAnswer.NothingLeft f = let n : _≡_ {A = ℕ} 0 1 = cc in absurd (omega arith)
     says nothingLeft d z (StepAnswer.Step g rs new cost) f = let n : _≡_ {A = ℕ} 0 1 = cc in absurd (omega arith)
     says nothingLeft d z StepAnswer.NothingLeft f = let l = left-known (questionOf p known) z d in ap₂ (λ (y : ℕ) (n : ℕ). record { yes = y; no = n }) (l .0) (l .1)
-    says noCandidate d z (StepAnswer.Step g rs new cost) f = let n : _≡_ {A = ℕ} 0 1 = cc in absurd (omega arith)
-    says noCandidate d z StepAnswer.NothingLeft f = let n : _≡_ {A = ℕ} 0 1 = cc in absurd (omega arith)
-    says a d z (StepAnswer.Refused number place) f = tt
+    says nothingLeft d z (StepAnswer.Refused number place) f = let n : _≡_ {A = ℕ} 0 1 = cc in absurd (omega arith)
+    says (step x) d z (StepAnswer.Refused number place) f = let n : _≡_ {A = ℕ} 0 1 = cc in absurd (omega arith)
 
-    refuses : (n : ℕ) (r : StepAnswer) → r ≡ StepAnswer.Refused n 0 → IsNext (value b end) known r
-    refuses n (StepAnswer.Step g rs new cost) f = let z : _≡_ {A = ℕ} 0 1 = cc in absurd (omega arith)
-    refuses n StepAnswer.NothingLeft f = let z : _≡_ {A = ℕ} 0 1 = cc in absurd (omega arith)
-    refuses n (StepAnswer.Refused number place) f = tt
+    refuses : (n : ℕ) → ((f : ℕ) → f < 2 ^ p .variables → models p f ≡ true → Between (given p) known (consequenceOf p) → ⊥) → (r : StepAnswer) → r ≡ StepAnswer.Refused n 0
+        → IsNext (value b end) known r
+    refuses n why (StepAnswer.Step g rs new cost) f = let z : _≡_ {A = ℕ} 0 1 = cc in absurd (omega arith)
+    refuses n why StepAnswer.NothingLeft f = let z : _≡_ {A = ℕ} 0 1 = cc in absurd (omega arith)
+    refuses n why (StepAnswer.Refused number place) f = why
 
     by : (h : Bool) → hasModel p ≡ h → (k : Bool) → between (given p) known (consequenceOf p) ≡ k → (a : Answer) → stepOf (questionOf p known) ≡ a
         → (r : StepAnswer) → r ≡ cond h (cond k (stepSays a) (StepAnswer.Refused 10 0)) (StepAnswer.Refused 9 0) → IsNext (value b end) known r
     by true h true k a d r f = says a d (sound h k) r f
-    by true h false k a d r f = refuses 10 r f
-    by false h k l a d r f = refuses 9 r f
+    by true h false k a d r f = refuses 10 (λ g x m b. false≢true (sym k ∙ lies-between _ _ _ b)) r f
+    by false h k l a d r f = refuses 9 (λ g x m b. no-filling p h .none g x m) r f
 
 -- ---- the call
 
 no-nine : (a : Answer) {at : ℕ} → stepSays a ≡ StepAnswer.Refused 9 at → ⊥
 unfolding stepSays
 no-nine nothingLeft d = let z : _≡_ {A = ℕ} 0 1 = cc in omega arith
-no-nine noCandidate d = let z : _≡_ {A = ℕ} 11 9 = cc in omega arith
 no-nine (step x) d = let z : _≡_ {A = ℕ} 0 1 = cc in omega arith
 
 pub step-call : {s : List ℕ} {on off : ℕ} {r : StepAnswer} → r ≡ stepAnswer on off (readBook s) → StepCall s on off r

@@ -13,10 +13,10 @@ use Rattle.book.specs.Format.{Read, value, refused, OrderBook, readBook}
 use Rattle.problem.specs.Problem.{Problem, problemOf, given}
 use Rattle.consequence.specs.Meaning.{models, hasModel, consequenceOf}
 use Rattle.consequence.specs.Demand2.{Demand2, NoFilling}
-use Rattle.step.specs.Meaning.{questionOf, Answer, nothingLeft, noCandidate, step, stepOf}
-use Rattle.step.specs.IsStep.{IsStep}
+use Rattle.step.specs.Meaning.{questionOf, Answer, nothingLeft, step, stepOf}
+use Rattle.step.specs.IsStep.{Between, IsStep}
 use Rattle.log.specs.Format.{Log, logBytes}
-use Rattle.log.specs.Meaning.{Run, done, stuck, runFor, logOf}
+use Rattle.log.specs.Meaning.{runFor, logOf}
 use Rattle.log.specs.Demand3.{Explained}
 use Rattle.engine.specs.declared.ModelAnswer.{ModelAnswer}
 use Rattle.engine.specs.declared.ModelAnswer.the-variants as ModelAnswer
@@ -88,7 +88,6 @@ pub record ConsequenceCall (s : List ℕ) (r : ConsequenceAnswer) : Type 0 where
 -- The answer on a step.
 unfoldable pub stepSays : Answer → StepAnswer
 stepSays nothingLeft = StepAnswer.NothingLeft
-stepSays noCandidate = StepAnswer.Refused 11 0
 stepSays (step s) = StepAnswer.Step (s .goal) (record { yes = s .reasons-on; no = s .reasons-off }) (record { yes = s .new-on; no = s .new-off }) (s .cost)
 
 -- A known set lies between the given facts and the consequence.
@@ -99,17 +98,19 @@ between facts known forced = subset (facts .yes) (known .yes) && subset (facts .
 unfoldable pub stepFor : LiteralSet → Problem → StepAnswer
 stepFor known p = cond (between (given p) known (consequenceOf p)) (stepSays (stepOf (questionOf p known))) (StepAnswer.Refused 10 0)
 
--- After the book come 9, 10 and 11 in that order.
+-- After the book come 9 and 10 in that order.
 unfoldable pub stepAnswer : ℕ → ℕ → Read OrderBook → StepAnswer
 unfolding withModel
 stepAnswer on off m = withModel (stepFor (record { yes = on; no = off })) StepAnswer.Refused m
 
--- The step for every filling and every candidate: what is answered is the step, and nothing is left only where the known set is the consequence.
+-- The step for every filling and every candidate: what is answered is the step, nothing is left only where the known set is the consequence, and a proper
+-- book is refused only where no filling is a model or the known set does not lie between the given facts and the consequence.
 abbrev pub IsNext : Read OrderBook → LiteralSet → StepAnswer → Type 0
 IsNext (value b end) known (StepAnswer.Step goal reasons new cost) =
     IsStep (questionOf (problemOf b) known) (record { goal = goal; reasons-on = reasons .yes; reasons-off = reasons .no; new-on = new .yes; new-off = new .no; cost = cost })
 IsNext (value b end) known StepAnswer.NothingLeft = known ≡ consequenceOf (problemOf b)
-IsNext (value b end) known (StepAnswer.Refused number place) = Unit {0}
+IsNext (value b end) known (StepAnswer.Refused number place) =
+    (f : ℕ) → f < 2 ^ problemOf b .variables → models (problemOf b) f ≡ true → Between (given (problemOf b)) known (consequenceOf (problemOf b)) → ⊥
 IsNext (refused number place) known r = r ≡ StepAnswer.Refused number place
 
 -- The contract of `next_step`.
@@ -125,16 +126,11 @@ pub data LogOutcome : Type 0 where
   logged : Log → LogOutcome
   refusedWith : ℕ → ℕ → LogOutcome
 
--- 11 where goals exist and no candidate does.
-unfoldable pub ofRun : Run → LogOutcome
-ofRun (done ss) = logged (logOf ss)
-ofRun stuck = refusedWith 11 0
-
--- After the book come 8, 9 and 11 in that order.
+-- After the book come 8 and 9 in that order.
 unfoldable pub logOutcome : ℕ → Read OrderBook → LogOutcome
 unfolding withModel
 logOutcome room (refused number place) = refusedWith number place
-logOutcome room (value b end) = cond (ltb room maxLog) (refusedWith 8 0) (withModel (λ p. ofRun (runFor p)) refusedWith (value b end))
+logOutcome room (value b end) = cond (ltb room maxLog) (refusedWith 8 0) (withModel (λ p. logged (logOf (runFor p))) refusedWith (value b end))
 
 -- The answer: the log's length, its number of steps and its total, or the refusal.
 unfoldable pub logAnswer : LogOutcome → LogAnswer

@@ -16,9 +16,9 @@ use Rattle.consequence.specs.Meaning.{Theory, contradicts, yesForced, noForced}
 use Rattle.consequence.specs.Contracts.{maskTheory}
 use Rattle.step.specs.Meaning.{Question, asking, Answer, stepOf}
 use Rattle.step.specs.Contracts.{Asked}
-use Rattle.log.specs.Meaning.{runOf}
+use Rattle.log.specs.Meaning.{runOf, logOf}
 use Rattle.log.specs.Contracts.{LogAsked}
-use Rattle.engine.specs.Calls.{between, stepSays, LogOutcome, refusedWith, ofRun}
+use Rattle.engine.specs.Calls.{between, stepSays, LogOutcome, logged, refusedWith}
 use Rattle.engine.specs.declared.StepAnswer.{StepAnswer}
 use Rattle.engine.specs.declared.StepAnswer.the-variants as StepAnswer
 use Rattle.engine.specs.declared.ModelAnswer.{ModelAnswer}
@@ -72,7 +72,7 @@ pub record FoundForced (p : MaskedProblem) (r : ConsequenceAnswer) : Type 0 wher
 abbrev pub stepQuestion : MaskedProblem → List (List ℕ) → LiteralSet → LiteralSet → Answer
 stepQuestion p costs forced known = stepOf (asking (theoryIn p) costs forced known)
 
--- 9 where the given facts contradict the rules, then 10 where the known set is not between them and what they force, then the step or 11.
+-- 9 where the given facts contradict the rules, then 10 where the known set is not between them and what they force, then the step.
 unfoldable pub stepIn : MaskedProblem → List (List ℕ) → LiteralSet → StepAnswer
 stepIn p costs known =
     cond (contradicts (theoryIn p) (p .facts .yes) (p .facts .no)) (StepAnswer.Refused 9 0)
@@ -95,9 +95,9 @@ pub record StepReady (p : MaskedProblem) (costs : List (List ℕ)) (forced known
 abbrev pub logQuestion : MaskedProblem → List (List ℕ) → LiteralSet → Question
 logQuestion p costs forced = asking (theoryIn p) costs forced (p .facts)
 
--- 9 where the given facts contradict the rules, then the log or 11.
+-- 9 where the given facts contradict the rules, then the log.
 unfoldable pub logIn : MaskedProblem → List (List ℕ) → LogOutcome
-logIn p costs = cond (contradicts (theoryIn p) (p .facts .yes) (p .facts .no)) (refusedWith 9 0) (ofRun (runOf (logQuestion p costs (forcedIn p))))
+logIn p costs = cond (contradicts (theoryIn p) (p .facts .yes) (p .facts .no)) (refusedWith 9 0) (logged (logOf (runOf (logQuestion p costs (forcedIn p)))))
 
 -- A problem and costs that a log can be made of: the given facts are over choices.
 pub record Loggable (p : MaskedProblem) (costs : List (List ℕ)) : Type 0 where

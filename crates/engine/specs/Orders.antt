@@ -2,7 +2,7 @@
 use mathlib.Core.Path.{_≡_, refl}
 use mathlib.Core.List.{List, [], _∷_, map}
 use Prim.Native.Nat.{ℕ}
-use lib.Count.{ones}
+use lib.Count.{ones, trailingZeros}
 use lib.IntN.{pos, negsuc}
 use Rattle.sets.specs.Sets.{bit, has, insert, subset, disjoint, diff, membersFrom, membersBelow, members}
 use Rattle.literals.specs.Literal.{variable, ofByte, byteOf}
@@ -15,10 +15,10 @@ use Rattle.book.specs.Orders.{order-a, order-b, order-c, order-d, order-e, orde
 use Rattle.sat.specs.Meaning.{everyUnder, everyFilling, someFilling, obeysRules, isModel}
 use Rattle.problem.specs.Problem.{problemOf, costOf}
 use Rattle.consequence.specs.Meaning.{models, hasModel, follows, collect, yesConsequence, noConsequence, theoryOf, obeying, contradicts, forcesYes, forcesNo, yesForced, noForced}
-use Rattle.step.specs.Meaning.{Question, sumBelow, setCost, yesGoals, noGoals, goals, goalLiteral, reasonsOn, reasonsOff, againstOn, againstOff, refutes, isCandidate, candidateCost, before, earlier, firstOf, candidate, candidatesFor, candidatesBelow, candidates, theStep, Answer, newOn, newOff, stepFrom, answerFrom, stepOf}
+use Rattle.step.specs.Meaning.{Question, sumBelow, setCost, yesGoals, noGoals, goals, goalLiteral, reasonsOn, reasonsOff, againstOn, againstOff, refutes, isCandidate, candidateCost, before, earlier, firstOf, candidate, candidatesFor, candidatesBelow, candidates, allKnown, theStep, Answer, newOn, newOff, stepFrom, stepOf}
 use Rattle.log.specs.Format.{listBytes, twoBytes, fourBytes, recordBytes, recordsBytes, okBytes, logBytes}
 use Rattle.log.specs.Meaning.{literalsOf, costsWritten, withNew, runFrom, runOf, runFor}
-use Rattle.engine.specs.Calls.{withModel, consequenceAnswer, between, stepSays, stepFor, stepAnswer, ofRun, logOutcome, logAnswer, bufferAfter}
+use Rattle.engine.specs.Calls.{withModel, consequenceAnswer, between, stepSays, stepFor, stepAnswer, logOutcome, logAnswer, bufferAfter}
 use Rattle.engine.specs.declared.ConsequenceAnswer.{ConsequenceAnswer}
 use Rattle.engine.specs.declared.ConsequenceAnswer.the-variants as Consequence
 use Rattle.engine.specs.declared.StepAnswer.{StepAnswer}
@@ -31,7 +31,7 @@ set y n = record { yes = y; no = n }
 
 -- The definitions that the meaning of a step computes with, and those of a book and its models, named once each.
 unfoldable pub computed : Question → Answer
-unfolding stepOf answerFrom stepFrom newOn newOff theStep candidates candidatesBelow candidatesFor candidate firstOf earlier before candidateCost isCandidate refutes againstOn againstOff reasonsOn reasonsOff goalLiteral goals noGoals yesGoals setCost sumBelow costOf yesForced noForced forcesYes forcesNo contradicts obeying
+unfolding stepOf stepFrom newOn newOff theStep allKnown trailingZeros candidates candidatesBelow candidatesFor candidate firstOf earlier before candidateCost isCandidate refutes againstOn againstOff reasonsOn reasonsOff goalLiteral goals noGoals yesGoals setCost sumBelow costOf yesForced noForced forcesYes forcesNo contradicts obeying
 computed q = stepOf q
 
 unfoldable pub readAndPosed : List ℕ → Read OrderBook
@@ -80,7 +80,7 @@ meant s =
     }
 
 pub orders-agree : map (λ (r : OrderRow). meant (r .bytes)) orders ≡ orders
-unfolding orders meant computed readAndPosed order-a order-b order-c order-d order-e order-f order-g order-h order-i order-j consequenceAnswer withModel logOutcome logAnswer bufferAfter ofRun runFor runOf runFrom withNew logBytes costsWritten okBytes recordsBytes recordBytes listBytes literalsOf twoBytes fourBytes byteOf members membersBelow membersFrom ones
+unfolding orders meant computed readAndPosed order-a order-b order-c order-d order-e order-f order-g order-h order-i order-j consequenceAnswer withModel logOutcome logAnswer bufferAfter runFor runOf runFrom withNew logBytes costsWritten okBytes recordsBytes recordBytes listBytes literalsOf twoBytes fourBytes byteOf members membersBelow membersFrom ones
 orders-agree = refl
 
 -- ---- single steps

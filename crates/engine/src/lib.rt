@@ -5,14 +5,13 @@ ghost use lib.ListN.{length};
 ghost use Rattle.book.specs.Limits.{maxLog};
 ghost use Rattle.book.specs.Format.{readBook};
 ghost use Rattle.book.specs.Answer.{bookAnswer, tableAnswer};
-ghost use Rattle.log.specs.Meaning.{runOf};
-ghost use Rattle.engine.specs.Calls.{ModelCall, ConsequenceCall, StepCall, between, stepSays, LogCall, LoggedAs, ofRun};
+ghost use Rattle.log.specs.Meaning.{runOf, logOf};
+ghost use Rattle.engine.specs.Calls.{ModelCall, ConsequenceCall, StepCall, between, stepSays, LogCall, logged, LoggedAs};
 ghost use Rattle.engine.specs.Contracts.{Searchable, FoundModel, FoundForced, Steppable, stepIn, stepQuestion, StepReady, Loggable, LogReady, logIn, logQuestion};
 use book::Book;
 use book::Reading;
 use consequence::Consequence;
 use literals::LiteralSet;
-use log::Written;
 use problem::MaskedProblem;
 use sat::Partial;
 use step::Next;
@@ -177,7 +176,7 @@ fn lies_between(facts: LiteralSet, known: LiteralSet, forced: LiteralSet) -> boo
     sets::subset(known.no, forced.no)
 }
 
-// The next step of a problem, or refusal 9 or 10 or 11.
+// The next step of a problem, or refusal 9 or 10.
 fn step_of(p: MaskedProblem, costs: [[u16; 2]; Book::MAX_CHOICES], known: LiteralSet) -> StepAnswer
     requires { ⌜ Steppable p costs ⌝ }
     ensures { λ r. ⌜ r ≡ stepIn p costs known ⌝ }
@@ -230,10 +229,6 @@ fn take_step(
             cost,
         },
         Next::NothingLeft => StepAnswer::NothingLeft,
-        Next::NoCandidate => StepAnswer::Refused {
-            number: 11,
-            place: 0,
-        },
     }
 }
 
@@ -260,7 +255,7 @@ pub fn log(s: &[u8], buffer: &mut [u8]) -> LogAnswer
     }
 }
 
-// The log of a problem into a buffer that has room, or refusal 9 or 11.
+// The log of a problem into a buffer that has room, or refusal 9.
 fn log_of(p: MaskedProblem, costs: [[u16; 2]; Book::MAX_CHOICES], buffer: &mut [u8]) -> LogAnswer
     requires { ⌜ Loggable p costs ⌝ }
     requires { ⌜ maxLog ≤ length (now buffer) ⌝ }
@@ -281,12 +276,12 @@ fn write_log(
 ) -> LogAnswer
     requires { ⌜ LogReady p costs forced ⌝ }
     requires { ⌜ maxLog ≤ length (now buffer) ⌝ }
-    ensures { λ r. ⌜ LoggedAs (ofRun (runOf (logQuestion p costs forced))) (now (buffer .entry)) (now (buffer .exit)) r ⌝ }
+    ensures { λ r. ⌜ LoggedAs (logged (logOf (runOf (logQuestion p costs forced)))) (now (buffer .entry)) (now (buffer .exit)) r ⌝ }
 {
     let yes = p.yes;
     let no = p.no;
     let rules = p.rules;
-    match log::write(
+    let written = log::write(
         p.variables,
         &yes[..rules],
         &no[..rules],
@@ -295,11 +290,10 @@ fn write_log(
         forced,
         p.facts,
         buffer,
-    ) {
-        Written::Log { size, steps, total } => LogAnswer::Written { size, steps, total },
-        Written::Stuck => LogAnswer::Refused {
-            number: 11,
-            place: 0,
-        },
+    );
+    LogAnswer::Written {
+        size: written.size,
+        steps: written.steps,
+        total: written.total,
     }
 }

@@ -1,4 +1,3 @@
-mod EndLaws
 mod ListLaws
 mod RecordLaws
 pub mod RunLaws

@@ -4,7 +4,7 @@ use mathlib.Core.Path.{_≡_, refl, sym, ap, ap₂, _∙_}
 use mathlib.Core.List.{List, [], _∷_, _++_, map, map-append, append-assoc, append-nil}
 use Prim.Native.Nat.{ℕ, suc, _+_, _^_, _≤_, _<_}
 use native.Mathlib.Omega.{arith}
-use lib.ListN.{length, set, length-append, length-map}
+use lib.ListN.{length, length-append, length-map}
 use Rattle.sets.specs.Sets.{has, union, count, members, remove, LeastMember, Lowest, width}
 use Rattle.sets.specs.Laws.Bits.{remove-lt}
 use Rattle.sets.specs.Laws.Count.{ones-remove}
@@ -15,7 +15,7 @@ use Rattle.log.specs.Format.{listBytes}
 use Rattle.log.specs.Meaning.{literalsOf}
 use Rattle.log.specs.Laws.Lists.{list-length-is}
 use Rattle.log.specs.Contracts.{memberByte, Put}
-use Rattle.log.proofs.StoreLaws.{put-append, put-byte, put-none, put-length}
+use Rattle.log.proofs.StoreLaws.{put-append, put-none, put-length}
 
 map-twice : (f : Literal → ℕ) (g : ℕ → Literal) (xs : List ℕ) → map f (map g xs) ≡ map (λ v. f (g v)) xs
 map-twice f g [] = refl
@@ -59,11 +59,11 @@ module _ (out₀ : List ℕ) (start : ℕ) (f : ℕ → ℕ) (all : ℕ) where
     listing-room h =
         omega (arith, put-length _ (w .put), w .put .place, length-map (w .done) f, ap length next, length-append (w .done) (v ∷ members (remove rest v)))
 
-    pub listing-more : {x : ℕ} → x ≡ f v → Listing (set out i x) (remove rest v) (i + 1)
-    listing-more {x} e = record {
+    pub listing-more : {x next : ℕ} {more : List ℕ} → x ≡ f v → Put out i (x ∷ []) more next → Listing more (remove rest v) next
+    listing-more e p = record {
       done = w .done ++ (v ∷ []);
       split = next ∙ sym (append-assoc (w .done) (v ∷ []) (members (remove rest v)));
-      put = rw (map-append f (w .done) (v ∷ []), e) (put-append (map f (w .done)) (f v ∷ []) (w .put) (put-byte out i (f v)));
+      put = rw (map-append f (w .done) (v ∷ [])) (put-append (map f (w .done)) (f v ∷ []) (w .put) (rw e at p));
       below = remove-lt width rest v (w .below);
     }
 
@@ -76,5 +76,13 @@ module _ (out₀ : List ℕ) (start : ℕ) (f : ℕ → ℕ) (all : ℕ) where
       rw same (w .put)
 
 -- the number first, and then the members
-pub listed : (a out : List ℕ) (at on off i : ℕ) → Put (set a at (count (union on off))) (at + 1) (map (memberByte on) (members (union on off))) out i → Put a at (listBytes (literalsOf on off)) out i
-listed a out at on off i p = rw (list-bytes on off) (put-append (count (union on off) ∷ []) (map (memberByte on) (members (union on off))) (put-byte a at (count (union on off))) p)
+pub listed : {a b out : List ℕ} {at k i : ℕ} (on off : ℕ) → Put a at (count (union on off) ∷ []) b k → Put b k (map (memberByte on) (members (union on off))) out i
+    → Put a at (listBytes (literalsOf on off)) out i
+listed on off p q = rw (list-bytes on off) (put-append (count (union on off) ∷ []) (map (memberByte on) (members (union on off))) p q)
+
+module _ (a : List ℕ) (at on off : ℕ) (below : union on off < 2 ^ width) (room : at + length (listBytes (literalsOf on off)) ≤ length a) where
+  pub number-room : at < length a
+  number-room = omega (arith, list-length on off below)
+
+  pub members-room : {b : List ℕ} {x k : ℕ} → Put a at (x ∷ []) b k → k + length (members (union on off)) ≤ length b
+  members-room {x = x} p = omega (arith, list-length on off below, members-count (union on off) below, p .place, put-length (x ∷ []) p)

@@ -2,15 +2,15 @@
 -- Assumes nothing.
 use mathlib.Core.Path.{_≡_, refl, ap, _∙_}
 use mathlib.Core.List.{List, [], _∷_, _++_, append-assoc}
-use Prim.Native.Nat.{ℕ, _+_, _%_, _/_, _≤_}
+use Prim.Native.Nat.{ℕ, _+_, _%_, _/_, _≤_, _<_}
 use native.Mathlib.Omega.{arith}
-use lib.ListN.{length, set, length-append}
+use lib.ListN.{length, length-append}
 use Rattle.literals.specs.Literal.{byteOf}
 use Rattle.step.specs.Meaning.{Step}
 use Rattle.log.specs.Format.{recordBytes, ST, OK, listBytes, twoBytes, fourBytes, okBytes}
 use Rattle.log.specs.Meaning.{literalsOf}
 use Rattle.log.specs.Contracts.{Put, stepBytes}
-use Rattle.log.proofs.StoreLaws.{put-append, put-byte, put-length}
+use Rattle.log.proofs.StoreLaws.{put-append, put-length}
 
 -- the parts of a step's record, one after the other
 abbrev pub upToGoal : Step → List ℕ
@@ -38,11 +38,11 @@ unfolding twoBytes
 step-length s = omega (arith, ap length (step-parts s), length-append (upToNew s) (twoBytes (s .cost)), new-length s)
 
 module _ (a : List ℕ) (at : ℕ) (s : Step) (room : at + length (stepBytes s) ≤ length a) where
-  pub goal-room : {b : List ℕ} {k : ℕ} → Put a at ST b k → k + 1 ≤ length b
-  goal-room p = omega (arith, step-length s, p .place, put-length ST p)
+  pub mark-room : at + 2 ≤ length a
+  mark-room = omega (arith, step-length s)
 
-  pub goal-put : {b : List ℕ} {k g : ℕ} → Put a at ST b k → g ≡ byteOf (s .goal) → Put a at (upToGoal s) (set b k g) (k + 1)
-  goal-put {b} {k} {g} p e = rw e (put-append ST (byteOf (s .goal) ∷ []) p (put-byte b k (byteOf (s .goal))))
+  pub goal-room : {b : List ℕ} {k : ℕ} → Put a at ST b k → k < length b
+  goal-room p = omega (arith, step-length s, p .place, put-length ST p)
 
   pub reasons-room : {b : List ℕ} {k : ℕ} → Put a at (upToGoal s) b k → k + length (listBytes (literalsOf (s .reasons-on) (s .reasons-off))) ≤ length b
   reasons-room p = omega (arith, step-length s, p .place, put-length (upToGoal s) p)
@@ -53,16 +53,42 @@ module _ (a : List ℕ) (at : ℕ) (s : Step) (room : at + length (stepBytes s) 
   pub cost-room : {b : List ℕ} {k : ℕ} → Put a at (upToNew s) b k → k + 2 ≤ length b
   cost-room p = omega (arith, step-length s, new-length s, p .place, put-length (upToNew s) p)
 
+-- the parts
+pub goal-put : {a b c : List ℕ} {at k r : ℕ} (s : Step) → Put a at ST b k → Put b k (byteOf (s .goal) ∷ []) c r → Put a at (upToGoal s) c r
+goal-put s p q = put-append ST (byteOf (s .goal) ∷ []) p q
+
+pub reasons-put : {a b c : List ℕ} {at k r : ℕ} (s : Step) → Put a at (upToGoal s) b k → Put b k (listBytes (literalsOf (s .reasons-on) (s .reasons-off))) c r
+    → Put a at (upToReasons s) c r
+reasons-put s p q = put-append (upToGoal s) (listBytes (literalsOf (s .reasons-on) (s .reasons-off))) p q
+
+pub new-put : {a b c : List ℕ} {at k r : ℕ} (s : Step) → Put a at (upToReasons s) b k → Put b k (listBytes (literalsOf (s .new-on) (s .new-off))) c r
+    → Put a at (upToNew s) c r
+new-put s p q = put-append (upToReasons s) (listBytes (literalsOf (s .new-on) (s .new-off))) p q
+
 -- the record is whole with its cost
 pub step-put : {a b c : List ℕ} {at k r : ℕ} (s : Step) → Put a at (upToNew s) b k → Put b k (s .cost / 256 % 256 ∷ s .cost % 256 ∷ []) c r → Put a at (stepBytes s) c r
 unfolding twoBytes
 step-put s p q = rw (step-parts s) (put-append (upToNew s) (twoBytes (s .cost)) p q)
 
 -- the record that ends the log
-pub ok-put : {a b c : List ℕ} {at k r : ℕ} (steps total : ℕ) → Put a at OK b k → Put (set b k steps) (k + 1) (fourBytes total) c r → Put a at (okBytes steps total) c r
+pub ok-put : {a b c d : List ℕ} {at j k r : ℕ} (steps total : ℕ) → Put a at OK b j → Put b j (steps ∷ []) c k → Put c k (fourBytes total) d r
+    → Put a at (okBytes steps total) d r
 unfolding okBytes
-ok-put {b = b} {k = k} steps total p q = put-append OK (steps ∷ fourBytes total) p (put-append (steps ∷ []) (fourBytes total) (put-byte b k steps) q)
+ok-put steps total p q t = put-append OK (steps ∷ fourBytes total) p (put-append (steps ∷ []) (fourBytes total) q t)
 
 pub ok-length : (steps total : ℕ) → length (okBytes steps total) ≡ 7
 unfolding okBytes fourBytes
 ok-length steps total = refl
+
+module _ (a : List ℕ) (at steps total : ℕ) (room : at + length (okBytes steps total) ≤ length a) where
+  pub ok-room : at + 2 ≤ length a
+  ok-room = omega (arith, ok-length steps total)
+
+  module _ {b : List ℕ} {j : ℕ} (p : Put a at OK b j) where
+    pub ok-count-room : j < length b
+    ok-count-room = omega (arith, ok-length steps total, p .place, put-length OK p)
+
+    pub ok-total-room : {c : List ℕ} {k : ℕ} → Put b j (steps ∷ []) c k → k + 4 ≤ length c
+    ok-total-room q = omega (arith, ok-length steps total, p .place, put-length OK p, q .place, put-length (steps ∷ []) q)
+
+pub ruleset ok-laws = (ok-room, ok-count-room, ok-total-room, ok-put)

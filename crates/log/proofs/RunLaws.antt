@@ -1,21 +1,21 @@
 -- The loop of the log: what holds after some steps, what one more changes, and the end.
 -- Assumes nothing.
 use mathlib.Core.Path.{_≡_, refl, sym, ap, ap₂, _∙_}
-use mathlib.Core.Bool.{false}
 use mathlib.Core.List.{List, [], _∷_, _++_, append-assoc, append-nil}
-use Prim.Native.Nat.{ℕ, suc, _+_, _-_, _*_, _^_, _≤_, _<_}
+use Prim.Native.Nat.{ℕ, zero, suc, _+_, _-_, _*_, _^_, _≤_, _<_}
 use native.Mathlib.Nat.{zero-add}
 use native.Mathlib.Omega.{arith}
 use lib.Count.{ones-le}
 use lib.IntN.{ℤ}
-use lib.ListN.{length, replicate, length-append, length-replicate}
+use lib.ListN.{length, length-append}
 use Rattle.sets.specs.Sets.{bit, union, diff, count, Within}
 use Rattle.sets.specs.Laws.Bits.{bit-union, bit-diff, union-lt}
 use Rattle.sets.specs.Laws.Subset.{within-le}
 use Rattle.sets.specs.Laws.Count.{ones-union}
 use Rattle.literals.specs.declared.LiteralSet.{LiteralSet}
 use Rattle.book.specs.Limits.{maxChoices, maxStepBytes, maxLog}
-use Rattle.step.specs.Meaning.{Step, Answer, nothingLeft, noCandidate, step, stepOf, goals, yesGoals, noGoals}
+use Rattle.consequence.specs.Laws.Masks.{to-theory, of-theory}
+use Rattle.step.specs.Meaning.{Step, Answer, nothingLeft, step, stepOf, goals, yesGoals, noGoals}
 use Rattle.step.specs.Contracts.{Asked, maskQuestion, nextOf}
 use Rattle.step.specs.Laws.TheStep.{asked-sound}
 use Rattle.step.specs.IsStep.{IsStep}
@@ -23,31 +23,14 @@ use Rattle.step.specs.Theorems.{step-is}
 use Rattle.step.specs.declared.Next.{Next}
 use Rattle.step.specs.declared.Next.the-variants as Next
 use Rattle.log.specs.Format.{recordsBytes, okBytes, logBytes}
-use Rattle.log.specs.Meaning.{Run, done, stuck, stepThen, withNew, runFrom, runOf, costsWritten, logOf}
-use Rattle.log.specs.Contracts.{Put, putStep, stepBytes, stepsBytes, totalOf, LogAsked, LogEnded, Ran, BuiltAs}
+use Rattle.log.specs.Meaning.{withNew, runFrom, runOf, costsWritten, logOf}
+use Rattle.log.specs.Contracts.{Put, putStep, stepBytes, stepsBytes, totalOf, LogAsked, LogWritten}
 use Rattle.log.specs.Laws.Growth as growth
-use Rattle.log.specs.declared.Built.{Built}
 use Rattle.log.proofs.ListLaws.{list-length}
 use Rattle.log.proofs.RecordLaws.{step-length, ok-length}
-use Rattle.log.proofs.StoreLaws.{put-append, put-none, put-length, put-front}
+use Rattle.log.proofs.StoreLaws.{put-append, put-none, put-length, put-whole}
 
 -- ---- steps in a row
-
-abbrev pub stepsThen : List Step → Run → Run
-stepsThen [] r = r
-stepsThen (s ∷ ss) r = stepThen s (stepsThen ss r)
-
-stepThen-snoc : (ss : List Step) (s : Step) (r : Run) → stepsThen (ss ++ (s ∷ [])) r ≡ stepsThen ss (stepThen s r)
-stepThen-snoc [] s r = refl
-stepThen-snoc (x ∷ ss) s r = ap (stepThen x) (stepThen-snoc ss s r)
-
-stepThen-stuck : (ss : List Step) → stepsThen ss stuck ≡ stuck
-stepThen-stuck [] = refl
-stepThen-stuck (x ∷ ss) = ap (stepThen x) (stepThen-stuck ss)
-
-stepThen-done : (ss : List Step) → stepsThen ss (done []) ≡ done ss
-stepThen-done [] = refl
-stepThen-done (x ∷ ss) = ap (stepThen x) (stepThen-done ss)
 
 bytes-snoc : (ss : List Step) (s : Step) → stepsBytes (ss ++ (s ∷ [])) ≡ stepsBytes ss ++ stepBytes s
 unfolding recordsBytes
@@ -63,7 +46,6 @@ total-snoc (x ∷ ss) s = omega (arith, total-snoc ss s)
 
 pub answered-step : (a : Answer) {g : ℤ} {x y : LiteralSet} {k : ℕ} {r : Next} → r ≡ nextOf a → r ≡ Next.Step g x y k → a ≡ step (putStep g x y k)
 answered-step nothingLeft e f = let z : _≡_ {A = ℕ} 0 1 = cc in absurd (omega arith)
-answered-step noCandidate e f = let z : _≡_ {A = ℕ} 0 1 = cc in absurd (omega arith)
 answered-step (step s) {g} {x} {y} {k} e f = same (sym e ∙ f)
   where
     same : nextOf (step s) ≡ Next.Step g x y k → step s ≡ step (putStep g x y k)
@@ -73,6 +55,10 @@ answered-step (step s) {g} {x} {y} {k} e f = same (sym e ∙ f)
         let c : record { yes = s .new-on; no = s .new-off } ≡ y = cc in
         let d : s .cost ≡ k = cc in
         rw (← a, ← b, ← c, ← d) refl
+
+pub answered-nothing : (a : Answer) {r : Next} → r ≡ nextOf a → r ≡ Next.NothingLeft → a ≡ nothingLeft
+answered-nothing nothingLeft e f = refl
+answered-nothing (step s) e f = let z : _≡_ {A = ℕ} 0 1 = cc in absurd (omega arith)
 
 -- ---- the log
 
@@ -100,6 +86,7 @@ module _ {n : ℕ} {ys ns : List ℕ} {ch : ℕ} {table : List (List ℕ)} {c fa
       known-yes = growth.sound-more (lg .forced) (asked-sound a) e .known-on;
       known-no = growth.sound-more (lg .forced) (asked-sound a) e .known-off;
       model = a .model;
+      forces = λ f m. of-theory ch (growth.sound-more (lg .forced) (asked-sound a) e .forces f (to-theory ch m));
       cheap = a .cheap;
     }
 
@@ -141,12 +128,13 @@ module _ {n : ℕ} {ys ns : List ℕ} {ch : ℕ} {table : List (List ℕ)} {c fa
   -- ---- the loop
 
   -- after some steps: they are written, and as many goals are fewer
-  pub record Logging (bytes : List ℕ) (at : ℕ) (known : LiteralSet) (steps total : ℕ) : Type 0 where
+  pub record Logging (before bytes : List ℕ) (at : ℕ) (known : LiteralSet) (steps total : ℕ) : Type 0 where
     pub taken : List Step
     pub turns : ℕ
-    pub so-far : runOf (maskQuestion n ys ns ch table c facts) ≡ stepsThen taken (runFrom turns (maskQuestion n ys ns ch table c known))
-    pub enough : count (goals (maskQuestion n ys ns ch table c known)) < turns
-    pub put : Put (replicate maxLog 0) 0 (stepsBytes taken) bytes at
+    pub so-far : runOf (maskQuestion n ys ns ch table c facts) ≡ taken ++ runFrom turns (maskQuestion n ys ns ch table c known)
+    pub enough : count (goals (maskQuestion n ys ns ch table c known)) ≤ turns
+    pub room : maxLog ≤ length before
+    pub put : Put before 0 (stepsBytes taken) bytes at
     pub counted : steps ≡ length taken
     pub summed : total ≡ totalOf taken
     pub asked : Asked n ys ns ch table c known
@@ -161,13 +149,14 @@ module _ {n : ℕ} {ys ns : List ℕ} {ch : ℕ} {table : List (List ℕ)} {c fa
       let w : Within m ch = record { keeps = λ v. omega (arith, bit-union (diff (c .yes) (known .yes)) (diff (c .no) (known .no)) v, bit-diff (c .yes) (known .yes) v, bit-diff (c .no) (known .no) v, a .yes-choices .keeps v, a .no-choices .keeps v) } in
       ones-le maxChoices m (omega (arith, a .rows, within-le m ch w))
 
-  pub logging-none : Logging (replicate maxLog 0) 0 facts 0 0
+  pub logging-none : {before : List ℕ} → maxLog ≤ length before → Logging before before 0 facts 0 0
   unfolding runOf recordsBytes costsWritten
-  logging-none = record {
+  logging-none r = record {
     taken = [];
-    turns = suc (count (goals (maskQuestion n ys ns ch table c facts)));
+    turns = count (goals (maskQuestion n ys ns ch table c facts));
     so-far = refl;
     enough = omega arith;
+    room = r;
     put = put-none _ 0;
     counted = refl;
     summed = refl;
@@ -177,12 +166,9 @@ module _ {n : ℕ} {ys ns : List ℕ} {ch : ℕ} {table : List (List ℕ)} {c fa
     cheap = omega arith;
   }
 
-  module _ {bytes : List ℕ} {at : ℕ} {known : LiteralSet} {steps total : ℕ} (w : Logging bytes at known steps total) where
-    turn : w .turns ≡ suc (w .turns - 1)
-    turn = omega (arith, w .enough)
-
-    pub bytes-room : length bytes ≡ maxLog
-    bytes-room = put-length _ (w .put) ∙ length-replicate {A = ℕ} maxLog 0
+  module _ {before bytes : List ℕ} {at : ℕ} {known : LiteralSet} {steps total : ℕ} (w : Logging before bytes at known steps total) where
+    bytes-room : maxLog ≤ length bytes
+    bytes-room = omega (arith, put-length _ (w .put), w .room)
 
     module _ {s : Step} (e : stepOf (maskQuestion n ys ns ch table c known) ≡ step s) where
       pub step-open : steps < maxChoices
@@ -192,13 +178,14 @@ module _ {n : ℕ} {ys ns : List ℕ} {ch : ℕ} {table : List (List ℕ)} {c fa
       logging-room = omega (arith, bytes-room, w .short, step-open, step-short (w .asked) e)
 
       pub logging-more : {out : List ℕ} {next y z : ℕ} → s .cost < 65536 → Put bytes at (stepBytes s) out next → y ≡ union (known .yes) (s .new-on) → z ≡ union (known .no) (s .new-off)
-          → Logging out next (record { yes = y; no = z }) (steps + 1) (total + s .cost)
+          → Logging before out next (record { yes = y; no = z }) (steps + 1) (total + s .cost)
       unfolding runFrom withNew
       logging-more {out} {next} {y} {z} k p f g = rw (f, g) (record {
         taken = w .taken ++ (s ∷ []);
         turns = w .turns - 1;
-        so-far = w .so-far ∙ ap (stepsThen (w .taken)) (one (w .turns - 1) turn) ∙ sym (stepThen-snoc (w .taken) s _);
+        so-far = w .so-far ∙ ap (λ r. w .taken ++ r) (one (w .turns - 1) (omega (arith, goals-fewer (w .asked) e, w .enough))) ∙ sym (append-assoc (w .taken) (s ∷ []) _);
         enough = omega (arith, goals-fewer (w .asked) e, w .enough);
+        room = w .room;
         put = rw (bytes-snoc (w .taken) s) (put-append (stepsBytes (w .taken)) (stepBytes s) (w .put) p);
         counted = rw (length-append (w .taken) (s ∷ []), w .counted) refl;
         summed = rw (total-snoc (w .taken) s, w .summed) refl;
@@ -209,50 +196,36 @@ module _ {n : ℕ} {ys ns : List ℕ} {ch : ℕ} {table : List (List ℕ)} {c fa
       })
         where
           one : (t : ℕ) → w .turns ≡ suc t → runFrom (w .turns) (maskQuestion n ys ns ch table c known)
-              ≡ stepThen s (runFrom t (maskQuestion n ys ns ch table c (record { yes = union (known .yes) (s .new-on); no = union (known .no) (s .new-off) })))
+              ≡ s ∷ runFrom t (maskQuestion n ys ns ch table c (record { yes = union (known .yes) (s .new-on); no = union (known .no) (s .new-off) }))
           one t q = rw (q, e, runFrom) refl
 
     pub end-room : at + length (okBytes steps total) ≤ length bytes
     end-room = omega (arith, ok-length steps total, bytes-room, w .short, w .left)
 
-    -- the end: nothing is left, or no candidate is
-    last-left : (t : ℕ) → w .turns ≡ suc t → stepOf (maskQuestion n ys ns ch table c known) ≡ nothingLeft → runFrom (w .turns) (maskQuestion n ys ns ch table c known) ≡ done []
+    -- the end: nothing is left
+    last-left : (t : ℕ) → stepOf (maskQuestion n ys ns ch table c known) ≡ nothingLeft → runFrom t (maskQuestion n ys ns ch table c known) ≡ []
     unfolding runFrom
-    last-left t q e = rw (q, e, runFrom) refl
+    last-left zero e = refl
+    last-left (suc t) e = rw (e, runFrom) refl
 
-    last-stuck : (t : ℕ) → w .turns ≡ suc t → stepOf (maskQuestion n ys ns ch table c known) ≡ noCandidate → runFrom (w .turns) (maskQuestion n ys ns ch table c known) ≡ stuck
-    unfolding runFrom
-    last-stuck t q e = rw (q, e, runFrom) refl
+    run-done : stepOf (maskQuestion n ys ns ch table c known) ≡ nothingLeft → runOf (maskQuestion n ys ns ch table c facts) ≡ w .taken
+    run-done e = w .so-far ∙ ap (λ r. w .taken ++ r) (last-left (w .turns) e) ∙ append-nil (w .taken)
 
-    run-done : stepOf (maskQuestion n ys ns ch table c known) ≡ nothingLeft → runOf (maskQuestion n ys ns ch table c facts) ≡ done (w .taken)
-    run-done e = w .so-far ∙ ap (stepsThen (w .taken)) (last-left _ turn e) ∙ stepThen-done (w .taken)
-
-    run-stuck : stepOf (maskQuestion n ys ns ch table c known) ≡ noCandidate → runOf (maskQuestion n ys ns ch table c facts) ≡ stuck
-    run-stuck e = w .so-far ∙ ap (stepsThen (w .taken)) (last-stuck _ turn e) ∙ stepThen-stuck (w .taken)
-
-    built : (r : Built) → r .stuck ≡ false → Put bytes at (okBytes steps total) (r .bytes) (r .size) → r .steps ≡ steps → r .total ≡ total → BuiltAs (w .taken) r
+    written : {after : List ℕ} {size : ℕ} → Put bytes at (okBytes steps total) after size
+        → LogWritten (w .taken) before after (record { size = size; steps = steps; total = total })
     unfolding logBytes
-    built r k o x y =
+    written {after} {size} o =
         let same : okBytes steps total ≡ okBytes (length (w .taken)) (totalOf (w .taken)) = ap₂ okBytes (w .counted) (w .summed) in
-        let all : Put (replicate maxLog 0) 0 (logBytes (logOf (w .taken))) (r .bytes) (r .size) = put-append (stepsBytes (w .taken)) (okBytes (length (w .taken)) (totalOf (w .taken))) (w .put) (rw same at o) in
-        let long : r .size ≡ length (logBytes (logOf (w .taken))) = all .place ∙ zero-add (length (logBytes (logOf (w .taken)))) in
-        let fits : r .size ≤ maxLog = omega (arith, o .place, ok-length steps total, w .short, w .left) in
+        let all : Put before 0 (logBytes (logOf (w .taken))) after size = put-append (stepsBytes (w .taken)) (okBytes (length (w .taken)) (totalOf (w .taken))) (w .put) (rw same at o) in
+        let long : size ≡ length (logBytes (logOf (w .taken))) = all .place ∙ zero-add (length (logBytes (logOf (w .taken)))) in
+        let fits : length (logBytes (logOf (w .taken))) ≤ maxLog = omega (arith, long, o .place, ok-length steps total, w .short, w .left) in
         record {
-          not-stuck = k;
-          first-bytes = rw long (put-front (logBytes (logOf (w .taken))) all (omega (arith, long, fits, length-replicate {A = ℕ} maxLog 0)));
-          length-is = long;
+          buffer = put-whole (logBytes (logOf (w .taken))) all (omega (arith, fits, w .room));
+          answered = rw (long, w .counted, w .summed) refl;
           short = fits;
-          room = put-length _ all ∙ length-replicate {A = ℕ} maxLog 0;
-          steps-are = x ∙ w .counted;
-          total-is = y ∙ w .summed;
         }
 
-    -- what is built where no step follows
-    pub logging-ended : (next : Next) (r : Built) → next ≡ nextOf (stepOf (maskQuestion n ys ns ch table c known)) → ((g : ℤ) (x y : LiteralSet) (k : ℕ) → next ≡ Next.Step g x y k → ⊥)
-        → LogEnded bytes at steps total next r → Ran (runOf (maskQuestion n ys ns ch table c facts)) r
-    logging-ended next r e no-step d = go (stepOf (maskQuestion n ys ns ch table c known)) refl e d
-      where
-        go : (o : Answer) → stepOf (maskQuestion n ys ns ch table c known) ≡ o → next ≡ nextOf o → LogEnded bytes at steps total next r → Ran (runOf (maskQuestion n ys ns ch table c facts)) r
-        go nothingLeft q f d = let t = (rw f at d) .said in rw (run-done q) (record { said = built r (t .0) (t .1) (t .2) (t .3) })
-        go noCandidate q f d = rw (run-stuck q) (record { said = (rw f at d) .said })
-        go (step s) q f d = absurd (no-step _ _ _ _ f)
+    -- what is written where nothing is left
+    pub logging-ended : {after : List ℕ} {size : ℕ} → stepOf (maskQuestion n ys ns ch table c known) ≡ nothingLeft → Put bytes at (okBytes steps total) after size
+        → LogWritten (runOf (maskQuestion n ys ns ch table c facts)) before after (record { size = size; steps = steps; total = total })
+    logging-ended e o = rw (run-done e) (written o)

@@ -2,12 +2,12 @@
 -- Assumes nothing.
 use mathlib.Core.Path.{_≡_, refl, sym, ap, _∙_}
 use mathlib.Core.List.{List, [], _∷_, _++_}
-use Prim.Native.Nat.{ℕ, suc, _+_, _≤_}
-use native.Mathlib.Nat.{add-zero}
-use native.Mathlib.Numerals.{add-one, towards-suc}
+use Prim.Native.Nat.{ℕ, suc, _+_, _/_, _%_, _≤_}
+use native.Mathlib.Nat.{add-zero, zero-add}
 use native.Mathlib.Omega.{arith}
-use lib.ListN.{length, set, take, drop, length-append}
-use lib.Seq.{sets, sets-eq, length-sets, take-at}
+use lib.ListN.{length, set, drop, length-append}
+use lib.Seq.{sets, sets-eq, length-sets}
+use Rattle.log.specs.Format.{fourBytes}
 use Rattle.log.specs.Contracts.{Put}
 
 pub sets-append : (l : List ℕ) (i : ℕ) (xs ys : List ℕ) → sets l i (xs ++ ys) ≡ sets (sets l i xs) (i + length xs) ys
@@ -36,15 +36,15 @@ put-none a at = record { stored = refl; place = sym (add-zero at) }
 pub put-length : {a b : List ℕ} {at r : ℕ} (xs : List ℕ) → Put a at xs b r → length b ≡ length a
 put-length {a} xs p = rw (p .stored) (length-sets a _ xs)
 
--- two bytes, and four, as the code stores them
-pub put-two : (a : List ℕ) (at x y : ℕ) → Put a at (x ∷ y ∷ []) (set (set a at x) (at + 1) y) (at + 2)
-put-two a at x y = record { stored = rw add-one refl; place = refl }
+-- two bytes, and four
+pub put-two : {a b c : List ℕ} {at k r x y : ℕ} → Put a at (x ∷ []) b k → Put b k (y ∷ []) c r → Put a at (x ∷ y ∷ []) c r
+put-two {x = x} {y} p q = put-append (x ∷ []) (y ∷ []) p q
 
-pub put-four : (a : List ℕ) (at w x y z : ℕ) → Put a at (w ∷ x ∷ y ∷ z ∷ []) (set (set (set (set a at w) (at + 1) x) (at + 2) y) (at + 3) z) (at + 4)
-put-four a at w x y z = record { stored = simp towards-suc; place = refl }
+pub put-four : {a b c : List ℕ} {at k r : ℕ} (n : ℕ) → Put a at (n / 16777216 % 256 ∷ n / 65536 % 256 ∷ []) b k → Put b k (n / 256 % 256 ∷ n % 256 ∷ []) c r
+    → Put a at (fourBytes n) c r
+unfolding fourBytes
+put-four n p q = put-append (n / 16777216 % 256 ∷ n / 65536 % 256 ∷ []) (n / 256 % 256 ∷ n % 256 ∷ []) p q
 
--- what is stored from the first byte on stands in front
-pub put-front : {a b : List ℕ} {r : ℕ} (xs : List ℕ) → Put a 0 xs b r → length xs ≤ length a → take (length xs) b ≡ xs
-put-front {a} {b} xs p h =
-    let all : b ≡ xs ++ drop (0 + length xs) a = p .stored ∙ sets-eq xs a 0 (omega arith) in
-    rw all (take-at xs (drop (0 + length xs) a) (length xs) refl)
+-- what is stored from the first byte on stands in front, and after it what was there
+pub put-whole : {a b : List ℕ} {r : ℕ} (xs : List ℕ) → Put a 0 xs b r → length xs ≤ length a → b ≡ xs ++ drop (length xs) a
+put-whole {a} {b} xs p h = p .stored ∙ rw (← zero-add (length xs)) (sets-eq xs a 0 (omega arith))

@@ -5,20 +5,10 @@ use lib.ListN.{length}
 use Rattle.sets.specs.Sets.{has, union, count, members}
 use Rattle.literals.specs.Literal.{Literal}
 use Rattle.problem.specs.Problem.{Problem, given}
-use Rattle.step.specs.Meaning.{Question, questionOf, goals, Step, nothingLeft, noCandidate, step, stepOf, literalOf}
+use Rattle.step.specs.Meaning.{Question, questionOf, goals, Step, nothingLeft, step, stepOf, literalOf}
 use Rattle.log.specs.Format.{StepRecord, Log}
 
 -- ---- the steps of a log
-
--- The steps up to the end, or that goals exist and no candidate does.
-pub data Run : Type 0 where
-  done : List Step → Run
-  stuck : Run
-
--- One step before the others.
-abbrev pub stepThen : Step → Run → Run
-stepThen s (done ss) = done (s ∷ ss)
-stepThen s stuck = stuck
 
 -- The question after a step: its new literals are known.
 unfoldable pub withNew : Question → Step → Question
@@ -33,21 +23,16 @@ withNew q s =
     }
 
 -- Take the step, add its new literals to K, repeat until nothing is left, in at most so many turns.
-unfoldable pub runFrom : ℕ → Question → Run
-runFrom zero q = stuck
-runFrom (suc turns) q =
-    elim (stepOf q) [
-      | nothingLeft ↦ done []
-      | noCandidate ↦ stuck
-      | step s ↦ stepThen s (runFrom turns (withNew q s))
-    ]
+unfoldable pub runFrom : ℕ → Question → List Step
+runFrom zero q = []
+runFrom (suc turns) q = elim (stepOf q) [ nothingLeft ↦ [] | step s ↦ s ∷ runFrom turns (withNew q s) ]
 
--- The run of a question. Each step closes a goal, so with one turn more than there are goals the last one finds nothing left.
-unfoldable pub runOf : Question → Run
-runOf q = runFrom (suc (count (goals q))) q
+-- The steps of a question. Each closes a goal, so that after as many turns as there are goals nothing is left.
+unfoldable pub runOf : Question → List Step
+runOf q = runFrom (count (goals q)) q
 
--- The run of a problem: from the given facts.
-unfoldable pub runFor : Problem → Run
+-- The steps of a problem: from the given facts.
+unfoldable pub runFor : Problem → List Step
 runFor p = runOf (questionOf p (given p))
 
 -- ---- the log that they make

@@ -63,7 +63,7 @@ fn worked_books(name: &[u8], w: Worked) {
 
 // The line of one group of answers.
 fn answers(name: &[u8], w: Walked, group: usize) {
-    if group < 11 {
+    if group < walks::GROUPS {
         result(name, w.tried[group], w.differ[group], b"\n");
     }
 }

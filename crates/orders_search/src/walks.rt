@@ -41,25 +41,27 @@ pub const SHORT_BUFFER: usize = 9;
 
 pub const NO_LOG: usize = 10;
 
+pub const GROUPS: usize = NO_LOG + 1;
+
 // Of each group: how often the engine was asked, and how often its answer was not what is due.
 // Of the logs: how many had no step, one, two, .. and seven or more.
 pub struct Walked {
-    pub tried: [u64; 11],
-    pub differ: [u64; 11],
+    pub tried: [u64; GROUPS],
+    pub differ: [u64; GROUPS],
     pub by_steps: [u64; 8],
 }
 
 pub fn none() -> Walked {
     Walked {
-        tried: [0; 11],
-        differ: [0; 11],
+        tried: [0; GROUPS],
+        differ: [0; GROUPS],
         by_steps: [0; 8],
     }
 }
 
 // One more answer of a group.
 pub fn noted(mut w: Walked, group: usize, agrees: bool) -> Walked {
-    if group < 11 {
+    if group < GROUPS {
         let tried = w.tried[group];
         w.tried[group] = std::num::wrapping_add_u64(tried, 1);
         let differ = w.differ[group];

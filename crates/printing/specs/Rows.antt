@@ -6,7 +6,7 @@ use lib.Count.{ones}
 use Rattle.sets.specs.Sets.{membersFrom, membersBelow, members}
 use Rattle.book.specs.Orders.{order-a, order-b, order-c, order-d, order-e, order-f, order-g, order-h, order-i, order-j}
 use Rattle.log.specs.Meaning.{literalsOf, costsWritten, withNew, runFrom, runOf, runFor}
-use Rattle.engine.specs.Calls.{withModel, ofRun, logOutcome}
+use Rattle.engine.specs.Calls.{withModel, logOutcome}
 use Rattle.engine.specs.Orders.{computed, readAndPosed}
 use Rattle.printing.specs.Text.{digits, decimal, literalText, literalsText, stepText, stepsText, doneText, logText, refusalText}
 use Rattle.printing.specs.Printed.{outcomeText, textOf}
@@ -95,5 +95,5 @@ linesText [] = []
 linesText (l ∷ ls) = l ++ linesText ls
 
 pub rows-agree : map (λ (r : PrintedOrder). textOf (r .bytes)) rows ≡ map (λ (r : PrintedOrder). linesText (r .lines)) rows
-unfolding rows textOf outcomeText logText stepsText stepText doneText refusalText literalsText literalText decimal digits computed readAndPosed order-a order-b order-c order-d order-e order-f order-g order-h order-i order-j withModel logOutcome ofRun runFor runOf runFrom withNew costsWritten literalsOf members membersBelow membersFrom ones
+unfolding rows textOf outcomeText logText stepsText stepText doneText refusalText literalsText literalText decimal digits computed readAndPosed order-a order-b order-c order-d order-e order-f order-g order-h order-i order-j withModel logOutcome runFor runOf runFrom withNew costsWritten literalsOf members membersBelow membersFrom ones
 rows-agree = refl

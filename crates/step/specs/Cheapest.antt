@@ -25,12 +25,17 @@ least-unique {A} {P} {key} {b} {r} {s} x y = omega (arith, under x y (y .from), 
     under g h (inl e) = omega (arith, g .low)
     under g h (inr w) = omega (arith, g .least (w .0) (w .1), w .2)
 
--- what is under the bound is a key
-pub least-some : {A : Type 0} {P : A → Type 0} {key : A → ℕ} {b r : ℕ} → Least P key b r → (r ≡ b → ⊥) → (t : A) × P t × (r ≡ key t)
-least-some {A} {P} {key} {b} {r} x d = go (x .from)
+-- r is the least of the keys of what has P.
+pub record Minimum {A : Type 0} (P : A → Type 0) (key : A → ℕ) (r : ℕ) : Type 0 where
+  pub least : (t : A) → P t → r ≤ key t
+  pub from : (t : A) × P t × (r ≡ key t)
+
+-- under a bound that is itself such a key
+pub least-minimum : {A : Type 0} {P : A → Type 0} {key : A → ℕ} {b r : ℕ} → Least P key b r → (t : A) → P t → b ≡ key t → Minimum P key r
+least-minimum {A} {P} {key} {b} {r} x t p e = record { least = x .least; from = go (x .from) }
   where
     go : (r ≡ b) ⊎ ((t : A) × P t × (r ≡ key t)) → (t : A) × P t × (r ≡ key t)
-    go (inl e) = absurd (d e)
+    go (inl d) = (t, p, d ∙ e)
     go (inr w) = w
 
 module _ {A : Type 0} {key : A → ℕ} where

@@ -13,8 +13,8 @@ use Rattle.problem.specs.Limits.{mostRules}
 use Rattle.consequence.specs.Meaning.{yesForced, noForced, NoModelOf}
 use Rattle.consequence.specs.Contracts.{maskTheory}
 use Rattle.problem.specs.Problem.{costOf, literalCost}
-use Rattle.step.specs.Meaning.{sumBelow, literalOf, Question, asking, goals, againstOn, againstOff, candidateCost, Answer, nothingLeft, noCandidate, Step, step, stepFrom}
-use Rattle.step.specs.Cheapest.{Least, InInterval, Hit}
+use Rattle.step.specs.Meaning.{sumBelow, literalOf, Question, asking, goals, againstOn, againstOff, candidateCost, Answer, nothingLeft, Step, step, stepFrom}
+use Rattle.step.specs.Cheapest.{Least, Minimum, InInterval, Hit}
 use Rattle.step.specs.declared.Aim.{Aim}
 use Rattle.step.specs.declared.Part.{Part}
 use Rattle.step.specs.declared.Next.{Next}
@@ -33,6 +33,10 @@ pub record Weighed (table : List (List ℕ)) (on off : ℕ) (ws : List ℕ) : Ty
 unfoldable pub total : List ℕ → ℕ → ℕ → ℕ
 total ws n s = sumBelow n (λ v. bit s v * getD ws v 0)
 
+-- The sum of all weights.
+abbrev pub sumOf : List ℕ → ℕ
+sumOf ws = sumBelow maxChoices (λ v. getD ws v 0)
+
 -- ---- the order as one number
 
 -- What a key has room for: the cost of each variable's literal and of a goal's opposite, variables of goals, and sets of choices.
@@ -45,14 +49,10 @@ goalRoom = maxChoices
 abbrev pub setRoom : ℕ
 setRoom = 2 ^ maxChoices
 
--- The key of no candidate: the greatest number of 64 bits.
-abbrev pub noKey : ℕ
-noKey = 2 ^ 64 - 1
-
 abbrev pub keyOf : ℕ → ℕ → ℕ → ℕ
 keyOf cost goal s = (cost * goalRoom + goal) * setRoom + s
 
--- There is room, so that the key is below that of no candidate.
+-- There is room for it in a key, which is then a number of 64 bits.
 pub record Small (cost goal s : ℕ) : Type 0 where
   pub cost-small : cost < costRoom
   pub goal-small : goal < goalRoom
@@ -123,6 +123,10 @@ aimAt table k v says =
 abbrev pub whole : Aim → Part
 whole aim = record { chosen = 0; limit = union (aim .on) (aim .off); cost = aim .cost }
 
+-- The variables of the goals.
+abbrev pub openGoals : LiteralSet → LiteralSet → ℕ
+openGoals c k = union (diff (c .yes) (k .yes)) (diff (c .no) (k .no))
+
 -- Rules and a consequence of few variables, within it what is known, and costs that are small.
 pub record Ready (n : ℕ) (ys ns : List ℕ) (table : List (List ℕ)) (c k : LiteralSet) : Type 0 where
   pub posed : Posed n ys ns (c .yes) (c .no)
@@ -131,6 +135,12 @@ pub record Ready (n : ℕ) (ys ns : List ℕ) (table : List (List ℕ)) (c k : L
   pub known-yes : Within (k .yes) (c .yes)
   pub known-no : Within (k .no) (c .no)
   pub cheap : (v column : ℕ) → costOf table v column ≤ maxCost
+
+-- The same where a goal is left, and what is known forces the consequence.
+pub record ReadyWithGoal (n : ℕ) (ys ns : List ℕ) (table : List (List ℕ)) (c k : LiteralSet) : Type 0 where
+  pub ready : Ready n ys ns table c k
+  pub forces : (f : ℕ) → Model n ys ns (k .yes) (k .no) f → Model n ys ns (c .yes) (c .no) f
+  pub goal-left : 0 < openGoals c k
 
 -- A candidate, in the logical form: v is the variable of a goal, and no filling obeys the rules and makes the set s of known literals and the
 -- opposite of the goal true.
@@ -152,16 +162,20 @@ Picked q x = Picks q (x .goal) (x .set)
 
 -- r is the least key of all candidates. The choices do not matter to it.
 pub record LeastFound (n : ℕ) (ys ns : List ℕ) (table : List (List ℕ)) (c k : LiteralSet) (r : ℕ) : Type 0 where
-  pub cheapest : (ch : ℕ) → Least (Picked (maskQuestion n ys ns ch table c k)) (keyOfPair (maskQuestion n ys ns ch table c k)) noKey r
+  pub cheapest : (ch : ℕ) → Minimum (Picked (maskQuestion n ys ns ch table c k)) (keyOfPair (maskQuestion n ys ns ch table c k)) r
+
+-- r is the least of a bound and the keys of all candidates.
+pub record LeastUnder (n : ℕ) (ys ns : List ℕ) (table : List (List ℕ)) (c k : LiteralSet) (bound r : ℕ) : Type 0 where
+  pub cheapest : (ch : ℕ) → Least (Picked (maskQuestion n ys ns ch table c k)) (keyOfPair (maskQuestion n ys ns ch table c k)) bound r
 
 -- The same while the goals of `left` are still to be tried.
 pub record Trying (q : Question) (left : ℕ) (x : GoalAndSet) : Type 0 where
   pub picks : Picked q x
   pub tried : bit left (x .goal) ≡ 0
 
-pub record Searching (n : ℕ) (ys ns : List ℕ) (table : List (List ℕ)) (c k : LiteralSet) (left r : ℕ) : Type 0 where
-  pub untried : Within left (union (diff (c .yes) (k .yes)) (diff (c .no) (k .no)))
-  pub cheapest : (ch : ℕ) → Least (Trying (maskQuestion n ys ns ch table c k) left) (keyOfPair (maskQuestion n ys ns ch table c k)) noKey r
+pub record Searching (n : ℕ) (ys ns : List ℕ) (table : List (List ℕ)) (c k : LiteralSet) (bound left r : ℕ) : Type 0 where
+  pub untried : Within left (openGoals c k)
+  pub cheapest : (ch : ℕ) → Least (Trying (maskQuestion n ys ns ch table c k) left) (keyOfPair (maskQuestion n ys ns ch table c k)) bound r
 
 -- ---- the new literals
 
@@ -178,7 +192,7 @@ pub record Learnt (n : ℕ) (ys ns : List ℕ) (ch : ℕ) (reasons k r : Literal
 
 -- ---- the next step
 
--- The rules and the limits, a consequence over choices that has a model, within it what is known, and the costs.
+-- The rules and the limits, a consequence over choices that has a model, within it what is known, which forces it, and the costs.
 pub record Asked (n : ℕ) (ys ns : List ℕ) (ch : ℕ) (table : List (List ℕ)) (c k : LiteralSet) : Type 0 where
   pub posed : Posed n ys ns (c .yes) (c .no)
   pub few : n ≤ maxVariables
@@ -190,6 +204,7 @@ pub record Asked (n : ℕ) (ys ns : List ℕ) (ch : ℕ) (table : List (List ℕ
   pub known-yes : Within (k .yes) (c .yes)
   pub known-no : Within (k .no) (c .no)
   pub model : (f : ℕ) × Model n ys ns (c .yes) (c .no) f
+  pub forces : (f : ℕ) → Model n ys ns (k .yes) (k .no) f → Model n ys ns (c .yes) (c .no) f
   pub cheap : (v column : ℕ) → costOf table v column ≤ maxCost
 
 -- A key whose cost fits, and what is known, which some filling makes true with the rules.
@@ -206,6 +221,5 @@ stepAt n ys ns ch c k best =
 -- The answer for each case.
 abbrev pub nextOf : Answer → Next
 nextOf nothingLeft = Next.NothingLeft
-nextOf noCandidate = Next.NoCandidate
 nextOf (step s) =
     Next.Step (s .goal) (record { yes = s .reasons-on; no = s .reasons-off }) (record { yes = s .new-on; no = s .new-off }) (s .cost)

@@ -5,10 +5,26 @@ use mathlib.Core.Bool.{Bool, true, false, cond}
 use Prim.Native.Nat.{ℕ, _^_, _≤_, _<_}
 use Rattle.sets.specs.Sets.{bit, union, insert, Within}
 use Rattle.literals.specs.Truth.{holds}
-use Rattle.consequence.specs.Meaning.{Theory, ModelOf, NoModelOf}
+use Rattle.literals.specs.declared.LiteralSet.{LiteralSet}
+use Rattle.consequence.specs.Meaning.{Theory, yesForced, noForced, ModelOf, NoModelOf}
 use Rattle.step.specs.Meaning.{Question, setCost, literalOf, yesGoals, noGoals, Candidate, Step}
 
--- What is asked makes sense: the consequence is over choices and has a model, and K lies within it.
+-- ---- what is asked
+
+-- The set c is what the given facts force over choices.
+pub record ForcedBy (t : Theory) (c facts : LiteralSet) : Type 0 where
+  pub yes-forced : c .yes ≡ yesForced t (facts .yes) (facts .no)
+  pub no-forced : c .no ≡ noForced t (facts .yes) (facts .no)
+
+-- K lies between the given facts and the consequence.
+pub record Between (facts known c : LiteralSet) : Type 0 where
+  pub facts-yes : Within (facts .yes) (known .yes)
+  pub facts-no : Within (facts .no) (known .no)
+  pub known-yes : Within (known .yes) (c .yes)
+  pub known-no : Within (known .no) (c .no)
+
+-- What is asked makes sense: the consequence is over choices and has a model, and K lies within it and forces it. So it is where K lies between
+-- the given facts and the consequence (`between-sound`, Theorems).
 pub record Sound (q : Question) : Type 0 where
   pub choices-below : q .theory .choices < 2 ^ q .theory .variables
   pub on-choices : Within (q .con-on) (q .theory .choices)
@@ -16,6 +32,7 @@ pub record Sound (q : Question) : Type 0 where
   pub known-on : Within (q .known-on) (q .con-on)
   pub known-off : Within (q .known-off) (q .con-off)
   pub model : (f : ℕ) × ModelOf (q .theory) (q .con-on) (q .con-off) f
+  pub forces : (f : ℕ) → ModelOf (q .theory) (q .known-on) (q .known-off) f → ModelOf (q .theory) (q .con-on) (q .con-off) f
 
 -- ---- a set of literals and the opposite of a goal
 

@@ -3,8 +3,8 @@
 -- that it says yes of, `off` those that it says no of. Everything is for any number of variables.
 use mathlib.Core.Bool.{Bool, true, false, cond, _&&_, _||_}
 use mathlib.Core.List.{List, [], _∷_, _++_}
-use mathlib.Core.Option.{Option, none, some}
 use Prim.Native.Nat.{ℕ, zero, suc, _+_, _*_, _^_}
+use lib.Count.{trailingZeros}
 use lib.Dec.{eqb, ltb}
 use lib.IntN.{pos, negsuc}
 use Rattle.sets.specs.Sets.{bit, has, union, inter, diff, insert, subset}
@@ -113,10 +113,10 @@ before a b tie = ltb a b || (eqb a b && tie)
 unfoldable pub earlier : Candidate → Candidate → Bool
 earlier a b = before (a .cost) (b .cost) (before (a .goal) (b .goal) (ltb (a .reasons) (b .reasons)))
 
--- The first of a list in the order.
-unfoldable pub firstOf : List Candidate → Option Candidate
-firstOf [] = none
-firstOf (c ∷ cs) = elim (firstOf cs) [ none ↦ some c | some d ↦ some (elim (earlier d c) [ true ↦ d | false ↦ c ]) ]
+-- The first in the order of a candidate and a list of them.
+unfoldable pub firstOf : Candidate → List Candidate → Candidate
+firstOf c [] = c
+firstOf c (d ∷ ds) = elim (earlier d c) [ true ↦ firstOf d ds | false ↦ firstOf c ds ]
 
 -- ---- the step
 
@@ -139,12 +139,17 @@ module _ (q : Question) where
         | false ↦ candidatesBelow v
       ]
 
-  -- All candidates, and the first of them.
+  -- All candidates.
   unfoldable pub candidates : List Candidate
   candidates = candidatesBelow (q .theory .variables)
 
-  unfoldable pub theStep : Option Candidate
-  theStep = firstOf candidates
+  -- All of K with the goal of the lowest variable: one of them, since K with the opposite of a goal contradicts the rules (`all-known`, Theorems).
+  unfoldable pub allKnown : Candidate
+  allKnown = candidate (trailingZeros (q .theory .variables) (goals q)) (union (q .known-on) (q .known-off))
+
+  -- The first of them.
+  unfoldable pub theStep : Candidate
+  theStep = firstOf allKnown candidates
 
 -- A step as it is answered: the goal, the reasons, the new literals and the cost.
 pub record Step : Type 0 where
@@ -157,7 +162,6 @@ pub record Step : Type 0 where
 
 pub data Answer : Type 0 where
   nothingLeft : Answer
-  noCandidate : Answer
   step : Step → Answer
 
 module _ (q : Question) where
@@ -179,10 +183,6 @@ module _ (q : Question) where
         cost = c .cost;
       }
 
-  unfoldable pub answerFrom : Option Candidate → Answer
-  answerFrom none = noCandidate
-  answerFrom (some c) = step (stepFrom c)
-
-  -- "Nothing left" where there is no goal, and in no other case; otherwise the step, or that goals exist and no candidate does.
+  -- "Nothing left" where there is no goal, and in no other case; otherwise the step.
   unfoldable pub stepOf : Answer
-  stepOf = elim (eqb (goals q) 0) [ true ↦ nothingLeft | false ↦ answerFrom (theStep q) ]
+  stepOf = elim (eqb (goals q) 0) [ true ↦ nothingLeft | false ↦ step (stepFrom (theStep q)) ]

@@ -1,9 +1,14 @@
--- The theorems about one step, over any number of variables. Their proofs are in Laws/TheStep.
+-- The theorems about one step, over any number of variables. Their proofs are in Laws.
 use mathlib.Core.Path.{_≡_}
-use Prim.Native.Nat.{ℕ}
-use Rattle.consequence.specs.Meaning.{ModelOf}
-use Rattle.step.specs.Meaning.{Question, Step, nothingLeft, noCandidate, step, stepOf}
-use Rattle.step.specs.IsStep.{Sound, IsStep}
+use mathlib.Core.Bool.{Bool, false}
+use mathlib.Core.List.{List}
+use Prim.Native.Nat.{ℕ, _^_, _<_}
+use Rattle.literals.specs.declared.LiteralSet.{LiteralSet}
+use Rattle.consequence.specs.Meaning.{Theory, contradicts, NoModelOf}
+use Rattle.step.specs.Meaning.{Question, asking, Step, nothingLeft, step, stepOf}
+use Rattle.step.specs.IsStep.{ForcedBy, Between, Sound, oppositeOn, oppositeOff, Goal, IsStep}
+use Rattle.step.specs.Laws.Given as given
+use Rattle.step.specs.Laws.Known as known-laws
 use Rattle.step.specs.Laws.TheStep as law
 
 module _ (q : Question) (z : Sound q) where
@@ -18,6 +23,21 @@ module _ (q : Question) (z : Sound q) where
   pub known-left : q .known-on ≡ q .con-on → q .known-off ≡ q .con-off → stepOf q ≡ nothingLeft
   known-left x y = law.known-left q z x y
 
-  -- Where K forces each literal of the consequence, there is a step.
-  pub some-step : ((f : ℕ) → ModelOf (q .theory) (q .known-on) (q .known-off) f → ModelOf (q .theory) (q .con-on) (q .con-off) f) → stepOf q ≡ noCandidate → ⊥
-  some-step forces e = law.some-step q z forces e
+-- ---- a next step is always there (E9)
+
+module _ (t : Theory) (table : List (List ℕ)) (c facts known : LiteralSet) (forced : ForcedBy t c facts) (between : Between facts known c) where
+  -- For a known set between the given facts and the consequence, and a literal of the consequence outside it, the known set with the opposite of that
+  -- literal contradicts the rules.
+  pub known-contradicts : (v : ℕ) (says : Bool) → Goal (asking t table c known) v says
+      → NoModelOf t (oppositeOn says (known .yes) v) (oppositeOff says (known .no) v)
+  known-contradicts v says g = known-laws.known-contradicts (asking t table c known) (given.known-forces forced between) v says g
+
+  module _ (below : t .choices < 2 ^ t .variables) (some : contradicts t (facts .yes) (facts .no) ≡ false) where
+    -- Such a known set can be asked about,
+    pub between-sound : Sound (asking t table c known)
+    between-sound = given.between-sound below forced some table between
+
+    -- and where a literal of the consequence is outside it, its next step is there.
+    pub some-step : (v : ℕ) (says : Bool) → Goal (asking t table c known) v says
+        → (s : Step) × (stepOf (asking t table c known) ≡ step s) × IsStep (asking t table c known) s
+    some-step v says g = law.some-step (asking t table c known) between-sound v says g

@@ -1,19 +1,19 @@
 // The next step: the cheapest set of known literals that forces a literal still unknown.
 ghost use mathlib.Core.Path.{_≡_};
-ghost use Prim.Native.Nat.{_<_, _≤_};
-ghost use Rattle.sets.specs.Sets.{Apart, width};
+ghost use Prim.Native.Nat.{_+_, _<_, _≤_};
+ghost use Rattle.sets.specs.Sets.{Apart, union, width};
 ghost use Rattle.literals.specs.Literal.{variable};
 ghost use Rattle.book.specs.Limits.{maxChoices};
 ghost use Rattle.problem.specs.Problem.{literalCost};
 ghost use Rattle.step.specs.Meaning.{literalOf, step, stepOf};
-ghost use Rattle.step.specs.Contracts.{weightOf, Weighed, keyOf, Small, Against, deniedBy, Exploring, Explored, Branching, maskQuestion, aimAt, whole, Ready, LeastFound, Reasoned, Learnt, Asked, Chosen, stepAt, nextOf};
+ghost use Rattle.step.specs.Contracts.{weightOf, Weighed, sumOf, costRoom, keyOf, Small, Against, deniedBy, Exploring, Explored, Branching, maskQuestion, aimAt, whole, openGoals, Ready, ReadyWithGoal, LeastUnder, LeastFound, Reasoned, Learnt, Asked, Chosen, stepAt, nextOf};
 use book::Book;
 use consequence::Consequence;
 use literals::LiteralSet;
 use sat::Partial;
 use sat::SearchResult;
 
-// The answer: the step, that every literal of the consequence is known, or that no candidate is left.
+// The answer: the step, or that every literal of the consequence is known.
 pub enum Next {
     Step {
         goal: i8,
@@ -22,7 +22,6 @@ pub enum Next {
         cost: u16,
     },
     NothingLeft,
-    NoCandidate,
 }
 
 // What the search for one goal does not change: the goal's variable and what the goal says of it, the known literals,
@@ -42,9 +41,6 @@ struct Part {
     pub limit: u64,
     pub cost: u64,
 }
-
-// The key of no candidate: above every other.
-const NONE: u64 = 18446744073709551615;
 
 // What a key has room for: sets of choices below the one, variables of choices below the other.
 const SETS: u64 = 1 << Book::MAX_CHOICES;
@@ -105,6 +101,20 @@ fn weigh(costs: [[u16; 2]; Book::MAX_CHOICES], known: LiteralSet) -> [u16; Book:
         i += 1;
     }
     weights
+}
+
+// The sum of all weights.
+fn sum(weights: [u16; Book::MAX_CHOICES]) -> u64
+    requires { ⌜ sumOf weights < costRoom ⌝ }
+    ensures { λ r. ⌜ r ≡ sumOf weights ⌝ }
+{
+    let mut total: u64 = 0;
+    let mut i = 0;
+    while i < Book::MAX_CHOICES {
+        total += weights[i] as u64;
+        i += 1;
+    }
+    total
 }
 
 // The order of the candidates as one number: the cost, then the goal's variable, then the set.
@@ -221,8 +231,53 @@ fn all_sets(aim: Aim) -> Part
     }
 }
 
-// The least key of all candidates. The goals share one bound, lowest variable first. A goal says what the consequence
-// says of its variable.
+// The variables of the goals.
+fn open_goals(consequence: LiteralSet, known: LiteralSet) -> u64
+    ensures { λ r. ⌜ r ≡ openGoals consequence known ⌝ }
+{
+    let yes_goals = sets::difference(consequence.yes, known.yes);
+    let no_goals = sets::difference(consequence.no, known.no);
+    sets::union(yes_goals, no_goals)
+}
+
+// The least of a bound and the keys of all candidates. The goals share one bound, lowest variable first. A goal says what
+// the consequence says of its variable.
+fn cheapest_under(
+    n: u32,
+    yes: &[u64],
+    no: &[u64],
+    costs: [[u16; 2]; Book::MAX_CHOICES],
+    weights: [u16; Book::MAX_CHOICES],
+    consequence: LiteralSet,
+    known: LiteralSet,
+    bound: u64,
+) -> u64
+    requires { ⌜ Ready n (now yes) (now no) costs consequence known ⌝ }
+    requires { ⌜ Weighed costs (known .yes) (known .no) weights ⌝ }
+    ensures { λ r. ⌜ LeastUnder n (now (yes .entry)) (now (no .entry)) costs consequence known bound r ⌝ }
+{
+    let mut left = open_goals(consequence, known);
+    let mut best = bound;
+    while left != 0 {
+        let v = sets::lowest(left);
+        let aim = aim_at(costs, known, v, sets::has(consequence.yes, v));
+        best = explore(n, yes, no, &weights, aim, all_sets(aim), best);
+        left = sets::remove(left, v);
+    }
+    best
+}
+
+// The key of all that is known with one goal.
+fn known_key(weights: [u16; Book::MAX_CHOICES], aim: Aim) -> u64
+    requires { ⌜ Small (aim .cost + sumOf weights) (aim .goal) (union (aim .on) (aim .off)) ⌝ }
+    ensures { λ r. ⌜ r ≡ keyOf (aim .cost + sumOf weights) (aim .goal) (union (aim .on) (aim .off)) ⌝ }
+{
+    let cost = aim.cost + sum(weights);
+    key(cost, aim.goal, sets::union(aim.on, aim.off))
+}
+
+// The least key of all candidates. What is known forces each goal, so all of it with the lowest goal is a candidate, and its
+// key a bound.
 fn cheapest(
     n: u32,
     yes: &[u64],
@@ -231,21 +286,14 @@ fn cheapest(
     consequence: LiteralSet,
     known: LiteralSet,
 ) -> u64
-    requires { ⌜ Ready n (now yes) (now no) costs consequence known ⌝ }
+    requires { ⌜ ReadyWithGoal n (now yes) (now no) costs consequence known ⌝ }
     ensures { λ r. ⌜ LeastFound n (now (yes .entry)) (now (no .entry)) costs consequence known r ⌝ }
 {
     let weights = weigh(costs, known);
-    let yes_goals = sets::difference(consequence.yes, known.yes);
-    let no_goals = sets::difference(consequence.no, known.no);
-    let mut left = sets::union(yes_goals, no_goals);
-    let mut best = NONE;
-    while left != 0 {
-        let v = sets::lowest(left);
-        let aim = aim_at(costs, known, v, sets::has(consequence.yes, v));
-        best = explore(n, yes, no, &weights, aim, all_sets(aim), best);
-        left = sets::remove(left, v);
-    }
-    best
+    let v = sets::lowest(open_goals(consequence, known));
+    let aim = aim_at(costs, known, v, sets::has(consequence.yes, v));
+    let bound = known_key(weights, aim);
+    cheapest_under(n, yes, no, costs, weights, consequence, known, bound)
 }
 
 // The new literals: what the reasons force over choices, less what is known. The reasons have a model.
@@ -317,15 +365,10 @@ pub fn next_step(
     requires { ⌜ Asked n (now yes) (now no) choices costs consequence known ⌝ }
     ensures { λ r. ⌜ r ≡ nextOf (stepOf (maskQuestion n (now (yes .entry)) (now (no .entry)) choices costs consequence known)) ⌝ }
 {
-    let yes_goals = sets::difference(consequence.yes, known.yes);
-    let no_goals = sets::difference(consequence.no, known.no);
-    let goals = sets::union(yes_goals, no_goals);
+    let goals = open_goals(consequence, known);
     if goals == 0 {
         return Next::NothingLeft;
     }
     let best = cheapest(n, yes, no, costs, consequence, known);
-    if best == NONE {
-        return Next::NoCandidate;
-    }
     step_of(n, yes, no, choices, consequence, known, best)
 }

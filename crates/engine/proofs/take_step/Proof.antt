@@ -3,7 +3,7 @@ use native.Mathlib.Omega.{arith}
 use lib.Seq.{length-take-le}
 use mir.Syntax.{w8}
 use mir.Facts.{toZ-ofZ}
-use Rattle.engine.proofs.StepLaws.{says-step, says-nothing, says-none}
+use Rattle.engine.proofs.StepLaws.{says-step, says-nothing}
 use borrow.Author.Needs.{needs}
 use Rattle.engine.proofs.take_step.Statement.{statement}
 use Rattle.engine.proofs.take_step.Tie as tie
@@ -32,18 +32,12 @@ enum-known-goal c = search needs
 enum-told : tie.Need-enum-told
 enum-told c = search needs
 
-enum-told-2 : tie.Need-enum-told-2
-enum-told-2 c = search needs
-
 returns : tie.Need-returns
 returns c =
     rw (toZ-ofZ {w = w8} (record { sfits = c .known-told .given .0 .1 })) (says-step _ (c .before .before .before .next-step .ensures) (c .before .goal .given .1))
 
 returns-2 : tie.Need-returns-2
 returns-2 c = says-nothing _ (c .before .before .next-step .ensures) (c .enum-told .given .1)
-
-returns-3 : tie.Need-returns-3
-returns-3 c = says-none _ (c .before .before .next-step .ensures) (c .enum-told2 .given .1)
 
 pub take-step-spec : {M : Type 1} → statement M
 take-step-spec =
@@ -56,7 +50,5 @@ take-step-spec =
     next-step-requires
     enum-known-goal
     enum-told
-    enum-told-2
     returns
-    returns-2
-    returns-3)
+    returns-2)

@@ -1,71 +1,42 @@
-use native.Mathlib.Omega.{arith}
-use lib.ListN.{length-set}
-use Rattle.log.specs.Format.{fourBytes}
-use Rattle.log.proofs.StoreLaws.{put-four}
+-- `log::put_four` meets its contract. Assumes nothing.
 use borrow.Author.Needs.{needs}
+use Rattle.log.proofs.StoreLaws.{put-four}
 use Rattle.log.proofs.put_four.Statement.{statement}
 use Rattle.log.proofs.put_four.Tie as tie
-use Rattle.log.proofs.put_four.Reads as reads
-use Rattle.log.proofs.put_four.Lts as lts
 
-cast-out : tie.Need-cast-out
-cast-out c = search needs
+cast-put-two : tie.Need-cast-put-two
+cast-put-two c = search needs
 
-slice-write-out : tie.Need-slice-write-out
-slice-write-out c = search needs
+cast-put-two-2 : tie.Need-cast-put-two-2
+cast-put-two-2 c = search needs
 
-cast-out-2 : tie.Need-cast-out-2
-cast-out-2 c = search needs
+put-two-requires : tie.Need-put-two-requires
+put-two-requires c κs = search needs
 
-add-out : tie.Need-add-out
-add-out c = search needs
+cast-put-two-3 : tie.Need-cast-put-two-3
+cast-put-two-3 c = search needs
 
-slice-write-out-2 : tie.Need-slice-write-out-2
-slice-write-out-2 c = simp length-set (omega arith)
+cast-put-two-4 : tie.Need-cast-put-two-4
+cast-put-two-4 c = search needs
 
-cast-out-3 : tie.Need-cast-out-3
-cast-out-3 c = search needs
-
-add-out-2 : tie.Need-add-out-2
-add-out-2 c = search needs
-
-slice-write-out-3 : tie.Need-slice-write-out-3
-slice-write-out-3 c = simp length-set (omega arith)
-
-cast-out-4 : tie.Need-cast-out-4
-cast-out-4 c = search needs
-
-add-out-3 : tie.Need-add-out-3
-add-out-3 c = search needs
-
-slice-write-out-4 : tie.Need-slice-write-out-4
-slice-write-out-4 c = simp length-set (omega arith)
-
-add-result : tie.Need-add-result
-add-result c = search needs
+put-two-requires-2 : tie.Need-put-two-requires-2
+put-two-requires-2 c κs = search needs
 
 same-length : tie.Need-same-length
 same-length c = search needs
 
 returns : tie.Need-returns
-unfolding fourBytes
-returns c = put-four _ _ _ _ _ _
+returns c = search (needs, put-four)
 
 pub put-four-spec : {M : Type 1} → statement M
 put-four-spec =
     tie.close
     (tie.spec
-    cast-out
-    slice-write-out
-    cast-out-2
-    add-out
-    slice-write-out-2
-    cast-out-3
-    add-out-2
-    slice-write-out-3
-    cast-out-4
-    add-out-3
-    slice-write-out-4
-    add-result
+    cast-put-two
+    cast-put-two-2
+    put-two-requires
+    cast-put-two-3
+    cast-put-two-4
+    put-two-requires-2
     same-length
     returns)

@@ -1,20 +1,8 @@
-use native.Mathlib.Omega.{arith}
-use lib.ListN.{length-set}
-use denote.Ref.{now}
-use Rattle.log.specs.Format.{OK}
-use Rattle.log.specs.Contracts.{Put}
-use Rattle.log.proofs.RecordLaws.{ok-length, ok-put}
-use Rattle.log.proofs.StoreLaws.{put-length}
+-- `log::put_ok` meets its contract. Assumes nothing.
 use borrow.Author.Needs.{needs}
+use Rattle.log.proofs.RecordLaws.{ok-laws}
 use Rattle.log.proofs.put_ok.Statement.{statement}
 use Rattle.log.proofs.put_ok.Tie as tie
-use Rattle.log.proofs.put_ok.Reads as reads
-use Rattle.log.proofs.put_ok.Lts as lts
-use Rattle.log.proofs.put_four.Reads as put-four-reads
-use Rattle.log.proofs.put_two.Reads as put-two-reads
-
-marked : (c : tie.After-put-two) → Put (now (c .before .before .before .args .out)) (c .before .before .before .args .at) OK (c .put-two .last .0) (c .put-two .result)
-marked c = c .put-two .ensures
 
 array-read-put-two : tie.Need-array-read-put-two
 array-read-put-two c = search needs
@@ -23,22 +11,19 @@ array-read-put-two-2 : tie.Need-array-read-put-two-2
 array-read-put-two-2 c = search needs
 
 put-two-requires : tie.Need-put-two-requires
-put-two-requires c κs = omega (arith, c .before .before .pre, ok-length (c .before .before .args .steps) (c .before .before .args .total))
+put-two-requires c κs = search (needs, ok-laws)
 
-slice-write-out : tie.Need-slice-write-out
-slice-write-out c = omega (arith, c .before .before .before .before .before .pre, ok-length (c .before .before .before .before .before .args .steps) (c .before .before .before .before .before .args .total), marked (c .before .before) .place, put-length OK (marked (c .before .before)))
-
-add-put-four : tie.Need-add-put-four
-add-put-four c = search needs
+put-byte-requires : tie.Need-put-byte-requires
+put-byte-requires c κs = search (needs, ok-laws)
 
 put-four-requires : tie.Need-put-four-requires
-put-four-requires c κs = simp length-set (omega (arith, c .before .before .before .before .before .before .pre, ok-length (c .before .before .before .before .before .before .args .steps) (c .before .before .before .before .before .before .args .total), marked (c .before .before .before) .place, put-length OK (marked (c .before .before .before))))
+put-four-requires c κs = search (needs, ok-laws)
 
 same-length : tie.Need-same-length
-same-length c = put-length _ (ok-put _ _ (marked (c .before .before .before .before .before .before)) (c .before .before .put-four .ensures))
+same-length c = search needs
 
 returns : tie.Need-returns
-returns c = ok-put _ _ (marked (c .before .before .before .before .before .before)) (c .before .before .put-four .ensures)
+returns c = search (needs, ok-laws)
 
 pub put-ok-spec : {M : Type 1} → statement M
 put-ok-spec =
@@ -47,8 +32,7 @@ put-ok-spec =
     array-read-put-two
     array-read-put-two-2
     put-two-requires
-    slice-write-out
-    add-put-four
+    put-byte-requires
     put-four-requires
     same-length
     returns)

@@ -1,30 +1,20 @@
-use native.Mathlib.Omega.{arith}
-use lib.ListN.{length-set}
-use Rattle.log.proofs.StoreLaws.{put-two}
+-- `log::put_two` meets its contract. Assumes nothing.
 use borrow.Author.Needs.{needs}
+use Rattle.log.proofs.StoreLaws.{put-two}
 use Rattle.log.proofs.put_two.Statement.{statement}
 use Rattle.log.proofs.put_two.Tie as tie
-use Rattle.log.proofs.put_two.Reads as reads
-use Rattle.log.proofs.put_two.Lts as lts
 
-slice-write-out : tie.Need-slice-write-out
-slice-write-out c = search needs
+put-byte-requires : tie.Need-put-byte-requires
+put-byte-requires c κs = search needs
 
-add-out : tie.Need-add-out
-add-out c = search needs
-
-slice-write-out-2 : tie.Need-slice-write-out-2
-slice-write-out-2 c = simp length-set (omega arith)
-
-add-result : tie.Need-add-result
-add-result c = search needs
+put-byte-requires-2 : tie.Need-put-byte-requires-2
+put-byte-requires-2 c κs = search needs
 
 same-length : tie.Need-same-length
 same-length c = search needs
 
 returns : tie.Need-returns
-returns c = put-two _ _ _ _
+returns c = search (needs, put-two)
 
 pub put-two-spec : {M : Type 1} → statement M
-put-two-spec =
-    tie.close (tie.spec slice-write-out add-out slice-write-out-2 add-result same-length returns)
+put-two-spec = tie.close (tie.spec put-byte-requires put-byte-requires-2 same-length returns)

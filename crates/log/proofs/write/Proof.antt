@@ -1,26 +1,127 @@
-use Rattle.log.proofs.EndLaws.{written-stuck, written-log, built-short, built-room}
+-- `log::write` meets its contract. Assumes nothing.
+use mathlib.Core.Path.{_≡_, _∙_}
+use native.Mathlib.Omega.{arith}
 use borrow.Author.Needs.{needs}
+use mir.Syntax.{w8}
+use mir.Val.{toZ, ofZ}
+use mir.Facts.{toZ-ofZ}
+use denote.Ref.{now}
+use Rattle.sets.specs.Sets.{count}
+use Rattle.literals.specs.declared.LiteralSet.{LiteralSet}
+use Rattle.step.specs.Meaning.{Question, Step, goals, stepOf, step, nothingLeft}
+use Rattle.step.specs.Contracts.{maskQuestion}
+use Rattle.log.specs.Contracts.{Put, putStep, stepBytes, LogAsked}
+use Rattle.log.proofs.RunLaws.{Logging, logging-none, logging-room, logging-more, logging-ended, end-room, step-open, goals-fewer, answered-step, answered-nothing}
+use Rattle.log.proofs.StoreLaws.{put-length}
 use Rattle.log.proofs.write.Statement.{statement}
 use Rattle.log.proofs.write.Tie as tie
-use Rattle.log.proofs.write.Reads as reads
-use Rattle.log.proofs.write.Lts as lts
-use Rattle.log.proofs.build.Reads as build-reads
-use Rattle.log.proofs.copy.Reads as copy-reads
 
-build-requires : tie.Need-build-requires
-build-requires c κs = search needs
+abbrev Inv-loop : tie.InvT-loop
+Inv-loop n yes' no' choices costs consequence buffer₀ at₀ known₀ steps₀ total₀ buffer at known steps total =
+    (lg : LogAsked n yes' no' choices costs consequence known₀) × Logging lg buffer₀ buffer at known steps total
 
-returns : tie.Need-returns
-returns c = written-stuck _ _ _ (c .before .build .ensures) (c .if1 .taken)
+abbrev μ-loop : tie.MeasureT-loop
+μ-loop n yes' no' choices costs consequence buffer₀ at₀ known₀ steps₀ total₀ buffer at known steps total =
+    count (goals (maskQuestion n yes' no' choices costs consequence known))
 
-copy-requires : tie.Need-copy-requires
-copy-requires c κs = (built-short _ _ (c .before .before .before .build .ensures) (c .before .before .if1 .left), (built-room _ _ (c .before .before .before .build .ensures) (c .before .before .if1 .left), c .before .before .before .before .before .before .before .pre .1))
+-- what is asked at a turn of the loop
+abbrev question : tie.Start Inv-loop μ-loop → LiteralSet → Question
+question s known = maskQuestion (s .args .n) (now (s .args .yes)) (now (s .args .no)) (s .args .choices) (s .args .costs) (s .args .consequence) known
 
-same-length : tie.Need-same-length
-same-length c = search needs
+abbrev start : tie.At-loop Inv-loop μ-loop → tie.Start Inv-loop μ-loop
+start c = c .before .before .before .before
 
-returns-2 : tie.Need-returns-2
-returns-2 c = written-log _ _ _ _ (c .before .before .before .before .before .before .build .ensures) (c .before .before .before .before .before .if1 .left) (c .before .before .copy .ensures)
+-- the step that was answered, in the arm that goes on, and that its goal is a signed byte, which is handed over by its bits
+abbrev taken : tie.After-known-told Inv-loop μ-loop → Step
+taken c = putStep (c .before .next .given .0 .0) (c .before .next .given .0 .1 .0) (c .before .next .given .0 .1 .1 .0) (c .before .next .given .0 .1 .1 .1 .0)
+
+abbrev turn : tie.After-known-told Inv-loop μ-loop → tie.At-loop Inv-loop μ-loop
+turn c = c .before .before .before .before
+
+told : (c : tie.After-known-told Inv-loop μ-loop) → stepOf (question (start (turn c)) (turn c .loop .known)) ≡ step (taken c)
+told c = answered-step _ (c .before .before .before .next-step .ensures) (c .before .next .given .1)
+
+byte : (c : tie.After-known-told Inv-loop μ-loop) → toZ w8 (ofZ w8 (c .before .next .given .0 .0)) ≡ c .before .next .given .0 .0
+byte c = toZ-ofZ {w = w8} (record { sfits = c .known-told .given .0 .1 })
+
+-- its record is stored
+stored : (c : tie.After-put-step Inv-loop μ-loop) → Put (turn (c .before .before) .loop .buffer) (turn (c .before .before) .loop .at) (stepBytes (taken (c .before .before))) (c .put-step .last .0) (c .put-step .result)
+stored c = rw (byte (c .before .before)) at (c .put-step .ensures)
+
+-- in the other arm nothing is left
+left : (c : tie.After-enum-told Inv-loop μ-loop) → stepOf (question (start (c .before .before .before)) (c .before .before .before .loop .known)) ≡ nothingLeft
+left c = answered-nothing _ (c .before .before .next-step .ensures) (c .enum-told .given .1)
+
+loop-holds : tie.Need-loop-holds Inv-loop μ-loop
+loop-holds c = (c .before .before .before .pre .0, logging-none _ (c .before .before .before .pre .1))
+
+next-step-requires : tie.Need-next-step-requires Inv-loop μ-loop
+next-step-requires c κs = c .loop .inv .1 .asked
+
+enum-known-next : tie.Need-enum-known-next Inv-loop μ-loop
+enum-known-next c = search needs
+
+enum-told : tie.Need-enum-told Inv-loop μ-loop
+enum-told c = search needs
+
+put-ok-requires : tie.Need-put-ok-requires Inv-loop μ-loop
+put-ok-requires c κs = end-room _ (c .before .before .before .before .loop .inv .1)
+
+same-length : tie.Need-same-length Inv-loop μ-loop
+same-length c = put-length _ (c .before .before .put-ok .ensures) ∙ put-length _ (c .before .before .before .before .before .before .before .loop .inv .1 .put)
+
+returns : tie.Need-returns Inv-loop μ-loop
+returns c = logging-ended _ (c .before .before .before .before .before .before .before .loop .inv .1) (left (c .before .before .before .before)) (c .before .before .put-ok .ensures)
+
+put-step-requires : tie.Need-put-step-requires Inv-loop μ-loop
+put-step-requires c κs = rw (byte (c .before)) (logging-room _ (turn (c .before) .loop .inv .1) (told (c .before)))
+
+union-requires : tie.Need-union-requires Inv-loop μ-loop
+union-requires c κs = search needs
+
+union-requires-2 : tie.Need-union-requires-2 Inv-loop μ-loop
+union-requires-2 c κs = search needs
+
+-- the arm that goes on, at its end
+abbrev arm : tie.After-union2 Inv-loop μ-loop → tie.After-known-told Inv-loop μ-loop
+arm c = c .before .before .before .before .before .before
+
+add-steps : tie.Need-add-steps Inv-loop μ-loop
+add-steps c = omega (arith, step-open _ (turn (arm c) .loop .inv .1) (told (arm c)))
+
+cast-total : tie.Need-cast-total Inv-loop μ-loop
+cast-total c = omega (arith, arm c .known-told .given)
+
+add-total : tie.Need-add-total Inv-loop μ-loop
+add-total c = omega (arith, arm c .known-told .given, turn (arm c) .loop .inv .1 .cheap, step-open _ (turn (arm c) .loop .inv .1) (told (arm c)))
+
+loop-less : tie.Need-loop-less Inv-loop μ-loop
+loop-less c = rw (c .before .union .ensures, c .union2 .ensures) (goals-fewer (turn (arm c) .loop .inv .0) (turn (arm c) .loop .inv .1 .asked) (told (arm c)))
+
+loop-again : tie.Need-loop-again Inv-loop μ-loop
+loop-again c = (
+  turn (arm c) .loop .inv .0,
+  logging-more _ (turn (arm c) .loop .inv .1) (told (arm c)) (omega (arith, arm c .known-told .given)) (stored (c .before .before .before .before)) (c .before .union .ensures) (c .union2 .ensures),
+)
 
 pub write-spec : {M : Type 1} → statement M
-write-spec = tie.close (tie.spec build-requires returns copy-requires same-length returns-2)
+write-spec =
+    tie.close
+    (tie.spec
+    Inv-loop
+    μ-loop
+    loop-holds
+    next-step-requires
+    enum-known-next
+    enum-told
+    put-ok-requires
+    same-length
+    returns
+    put-step-requires
+    union-requires
+    union-requires-2
+    add-steps
+    cast-total
+    add-total
+    loop-less
+    loop-again)

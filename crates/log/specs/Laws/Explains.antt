@@ -13,6 +13,7 @@ use lib.ListN.{length, length-map}
 use lib.Pow.{pow-mono}
 use Rattle.sets.specs.Sets.{bit, union, diff, count, Within, Apart}
 use Rattle.sets.specs.Laws.Bits.{bit-le, bit-union, bit-diff, member-lt}
+use Rattle.sets.specs.Laws.Count.{zero-of-ones}
 use Rattle.sets.specs.Laws.Subset.{within-le, within-refl, apart-insert, apart-symm}
 use Rattle.literals.specs.Literal.{Literal, variable}
 use Rattle.literals.specs.Truth.{holds, allHold, yesMask, noMask}
@@ -26,16 +27,16 @@ use Rattle.consequence.specs.Meaning.{hasModel, yesConsequence, noConsequence, 
 use Rattle.consequence.specs.Demand2.{OverChoice, Always, Demand2}
 use Rattle.consequence.specs.Laws.Masks.{assigned-theory}
 use Rattle.consequence.specs.Laws.Problems.{has-contradicts, yes-consequence, no-consequence, consequence-demand}
-use Rattle.step.specs.Meaning.{Question, questionOf, Step, Answer, nothingLeft, noCandidate, step, stepOf, literalOf, goals, yesGoals, noGoals}
-use Rattle.step.specs.IsStep.{Sound, oppositeOn, oppositeOff, Goal, Candidature, Gained, IsStep}
-use Rattle.step.specs.Theorems.{step-is, left-known, some-step}
+use Rattle.step.specs.Meaning.{Question, questionOf, Step, Answer, nothingLeft, step, stepOf, literalOf, goals, yesGoals, noGoals}
+use Rattle.step.specs.IsStep.{ForcedBy, Sound, oppositeOn, oppositeOff, Goal, Candidature, Gained, IsStep}
+use Rattle.step.specs.Theorems.{step-is, left-known}
 use Rattle.step.specs.Laws.Costs.{set-bound}
 use Rattle.step.specs.Laws.Explores.{opposite}
-use Rattle.step.specs.Laws.TheStep.{sound-sized}
+use Rattle.step.specs.Laws.TheStep.{sound-sized, step-left}
+use Rattle.step.specs.Laws.Given as facts
 use Rattle.log.specs.Format.{logBytes, isLog, readLog, risingOver}
-use Rattle.log.specs.Meaning.{Run, done, stuck, stepThen, withNew, runFrom, runOf, runFor, literalsOf, recordOf, costsWritten, logOf}
+use Rattle.log.specs.Meaning.{withNew, runFrom, runOf, runFor, literalsOf, recordOf, costsWritten, logOf}
 use Rattle.log.specs.Demand3.{Forces, Contradicts, costOfSet, In, Unknown, StepHolds, EachHolds, knownAfter, Demand3, Explained}
-use Rattle.log.specs.Contracts.{ForcedBy}
 use Rattle.log.specs.Laws.Reads.{Fits, AllFit, InForm, read-written}
 use Rattle.log.specs.Laws.Lists.{OverVariables, SameLiterals, in-all, holds-pos, holds-neg, pos-holds, neg-holds, in-yes, list-length-is, list-rises, hold-keeps, hold-avoids, keeps-hold, mask-yes, yes-mask, mask-no, no-mask, opposite-cost, opposite-le, listed-yes, listed-no, listed-zero, same-listed, same-both, same-masks, clash, first-holds, holds-first}
 use Rattle.log.specs.Laws.Growth as growth
@@ -68,7 +69,7 @@ module _ {p : Problem} (w : ProperProblem p) (some : hasModel p ≡ true) where
   demand = consequence-demand p (w .choices-below)
 
   con-apart : (v : ℕ) → bit (yesConsequence p) v + bit (noConsequence p) v ≤ 1
-  con-apart v = growth.consequence-apart choices-below forced consistent .avoids v
+  con-apart v = facts.consequence-apart choices-below forced consistent .avoids v
 
   choice-variable : (v : ℕ) → bit (p .choices) v ≡ 1 → v < p .variables
   choice-variable v e = member-lt _ (p .choices) v e (w .choices-below)
@@ -352,31 +353,35 @@ module _ {p : Problem} (w : ProperProblem p) (some : hasModel p ≡ true) where
         few = omega (arith, f .few, growth.goals-fewer forced a e);
       }
 
-  follows : (turns : ℕ) (ks : List Literal) (known : LiteralSet) (ss : List Step) → Sound (ask known) → SameLiterals ks (known .yes) (known .no)
-      → runFrom turns (ask known) ≡ done ss → RunHolds ks known ss
+  -- with as many turns as goals the end is reached
+  follows : (turns : ℕ) (ks : List Literal) (known : LiteralSet) → Sound (ask known) → SameLiterals ks (known .yes) (known .no) → count (goals (ask known)) ≤ turns
+      → RunHolds ks known (runFrom turns (ask known))
   unfolding runFrom withNew
-  follows zero ks known ss a st e = let z : _≡_ {A = ℕ} 0 1 = cc in absurd (omega arith)
-  follows (suc turns) ks known ss a st e =
-      go (stepOf (ask known)) refl e
-      (λ s rest d. follows turns (ks ++ literalsOf (s .new-on) (s .new-off)) (record { yes = union (known .yes) (s .new-on); no = union (known .no) (s .new-off) }) rest (growth.sound-more forced a d) (same-more a st d))
+  follows zero ks known a st c = follows-none ks known a st (step-left (ask known) (zero-of-ones _ (omega arith)))
+  follows (suc turns) ks known a st c =
+      go (stepOf (ask known)) refl
+      (λ s d.
+      follows turns (ks ++ literalsOf (s .new-on) (s .new-off)) (record { yes = union (known .yes) (s .new-on); no = union (known .no) (s .new-off) })
+      (growth.sound-more forced a d) (same-more a st d) (omega (arith, c, growth.goals-fewer forced a d)))
     where
       go : (r : Answer) → stepOf (ask known) ≡ r
-          → elim r [ nothingLeft ↦ done [] | noCandidate ↦ stuck | step s ↦ stepThen s (runFrom turns (withNew (ask known) s)) ] ≡ done ss
-          → ((s : Step) (rest : List Step) → stepOf (ask known) ≡ step s → runFrom turns (withNew (ask known) s) ≡ done rest
-          → RunHolds (ks ++ literalsOf (s .new-on) (s .new-off)) (record { yes = union (known .yes) (s .new-on); no = union (known .no) (s .new-off) }) rest)
-          → RunHolds ks known ss
-      go nothingLeft d h ih = let same : [] ≡ ss = cc in rw (← same) (follows-none ks known a st d)
-      go noCandidate d h ih = let z : _≡_ {A = ℕ} 0 1 = cc in absurd (omega arith)
-      go (step s) d h ih = more (runFrom turns (withNew (ask known) s)) refl h
-        where
-          more : (r : Run) → runFrom turns (withNew (ask known) s) ≡ r → stepThen s r ≡ done ss → RunHolds ks known ss
-          more stuck p q = let z : _≡_ {A = ℕ} 0 1 = cc in absurd (omega arith)
-          more (done rest) p q = let same : s ∷ rest ≡ ss = cc in rw (← same) (follows-more ks known s rest a st d (ih s rest d p))
+          → ((s : Step) → stepOf (ask known) ≡ step s
+          → RunHolds (ks ++ literalsOf (s .new-on) (s .new-off)) (record { yes = union (known .yes) (s .new-on); no = union (known .no) (s .new-off) }) (runFrom turns (withNew (ask known) s)))
+          → RunHolds ks known (elim r [ nothingLeft ↦ [] | step s ↦ s ∷ runFrom turns (withNew (ask known) s) ])
+      go nothingLeft d ih = follows-none ks known a st d
+      go (step s) d ih = follows-more ks known s _ a st d (ih s d)
 
   -- the forced choices not given
   first-known : Sound (ask (given p))
   unfolding theoryOf
-  first-known = growth.sound-known choices-below forced consistent (p .costs) (given p) (growth.yes-given choices-below forced (w .yes-facts)) (growth.no-given choices-below forced (w .no-facts))
+  first-known =
+      facts.between-sound choices-below forced consistent (p .costs)
+      (record {
+        facts-yes = within-refl _;
+        facts-no = within-refl _;
+        known-yes = facts.yes-given choices-below forced (w .yes-facts);
+        known-no = facts.no-given choices-below forced (w .no-facts);
+      })
 
   not-given-are : (l : Literal) → In l (literalsOf (yesGoals (ask (given p))) (noGoals (ask (given p)))) → Unknown p (p .facts) l × Always p l
   unfolding yesGoals noGoals
@@ -437,53 +442,15 @@ module _ {p : Problem} (w : ProperProblem p) (some : hasModel p ≡ true) where
       choices-small : p .choices < 2 ^ 127
       choices-small = let few : p .variables ≤ 127 = omega (arith, w .few-variables) in le-trans (w .choices-below) (pow-mono few)
 
-  pub explained : (ss : List Step) → runFor p ≡ done ss → Explained p (logBytes (logOf ss)) (length ss) (costsWritten (map recordOf ss))
-  unfolding runFor runOf demand-of
-  explained ss e =
-      record { demand = demand-of ss (follows _ (p .facts) (given p) ss first-known (same-masks (p .facts) (w .facts-proper)) e); steps-said = refl; total-said = refl }
+  steps-hold : RunHolds (p .facts) (given p) (runFor p)
+  unfolding runFor runOf
+  steps-hold = follows _ (p .facts) (given p) first-known (same-masks (p .facts) (w .facts-proper)) (omega arith)
+
+  pub explained : Explained p (logBytes (logOf (runFor p))) (length (runFor p)) (costsWritten (map recordOf (runFor p)))
+  unfolding demand-of
+  explained = record { demand = demand-of (runFor p) steps-hold; steps-said = refl; total-said = refl }
 
   -- its bytes are read back as it
-  pub reads-back : (ss : List Step) → runFor p ≡ done ss → readLog (p .choices) (logBytes (logOf ss)) ≡ isLog (logOf ss)
+  pub reads-back : readLog (p .choices) (logBytes (logOf (runFor p))) ≡ isLog (logOf (runFor p))
   unfolding explained demand-of
-  reads-back ss e = explained ss e .demand .read
-
-  -- ---- a log is written
-
-  -- what the given facts and more force is the consequence
-  known-forces : (known : LiteralSet) → Within (given p .yes) (known .yes) → Within (given p .no) (known .no) → (f : ℕ) → ModelBy (known .yes) (known .no) f
-      → ModelBy (yesConsequence p) (noConsequence p) f
-  known-forces known y n f m =
-      growth.consequence-model choices-below forced f
-      (record {
-        below = m .below;
-        keeps = record { keeps = λ v. omega (arith, y .keeps v, m .keeps .keeps v) };
-        avoids = record { avoids = λ v. omega (arith, n .keeps v, m .avoids .avoids v) };
-        obeyed = m .obeyed;
-      })
-
-  more-known : (x y : ℕ) {m : ℕ} → Within m x → Within m (union x y)
-  more-known x y w = record { keeps = λ v. omega (arith, w .keeps v, bit-union x y v) }
-
-  -- so a step is found at each known set on the way, and with as many turns as goals the end is reached
-  not-stuck : (turns : ℕ) (known : LiteralSet) → Sound (ask known) → Within (given p .yes) (known .yes) → Within (given p .no) (known .no)
-      → count (goals (ask known)) < turns → runFrom turns (ask known) ≡ stuck → ⊥
-  unfolding runFrom withNew
-  not-stuck zero known a y n c e = omega arith
-  not-stuck (suc turns) known a y n c e =
-      go (stepOf (ask known)) refl e
-      (λ s d. not-stuck turns (record { yes = union (known .yes) (s .new-on); no = union (known .no) (s .new-off) }) (growth.sound-more forced a d) (more-known _ _ y) (more-known _ _ n) (omega (arith, c, growth.goals-fewer forced a d)))
-    where
-      go : (r : Answer) → stepOf (ask known) ≡ r
-          → elim r [ nothingLeft ↦ done [] | noCandidate ↦ stuck | step s ↦ stepThen s (runFrom turns (withNew (ask known) s)) ] ≡ stuck
-          → ((s : Step) → stepOf (ask known) ≡ step s → runFrom turns (withNew (ask known) s) ≡ stuck → ⊥) → ⊥
-      go nothingLeft d h ih = let z : _≡_ {A = ℕ} 0 1 = cc in absurd (omega arith)
-      go noCandidate d h ih = some-step (ask known) a (known-forces known y n) d
-      go (step s) d h ih = more (runFrom turns (withNew (ask known) s)) refl h
-        where
-          more : (r : Run) → runFrom turns (withNew (ask known) s) ≡ r → stepThen s r ≡ stuck → ⊥
-          more stuck p q = ih s d p
-          more (done rest) p q = let z : _≡_ {A = ℕ} 0 1 = cc in absurd (omega arith)
-
-  pub not-stuck-for : runFor p ≡ stuck → ⊥
-  unfolding runFor runOf
-  not-stuck-for e = not-stuck _ (given p) first-known (within-refl _) (within-refl _) (omega arith) e
+  reads-back = explained .demand .read

@@ -9,77 +9,16 @@ use native.Mathlib.Decide.{ℕ-discrete}
 use native.Mathlib.Omega.{arith}
 use Rattle.sets.specs.Sets.{bit, union, diff, count, Within, Apart}
 use Rattle.sets.specs.Laws.Bits.{bit-le, bit-union, bit-diff, member-lt}
+use Rattle.sets.specs.Laws.Subset.{within-trans}
 use Rattle.sets.specs.Laws.Count.{ones-proper}
 use Rattle.literals.specs.declared.LiteralSet.{LiteralSet}
-use Rattle.consequence.specs.Meaning.{Theory, contradicts, ModelOf}
-use Rattle.consequence.specs.Laws.Forcing.{Exactly, yes-exactly, no-exactly, forced-model, contradicts-not}
+use Rattle.consequence.specs.Meaning.{Theory, ModelOf}
+use Rattle.consequence.specs.Laws.Forcing.{Exactly}
 use Rattle.step.specs.Meaning.{asking, Step, step, stepOf, goals, yesGoals, noGoals}
-use Rattle.step.specs.IsStep.{Sound, Goal, New, Gained, IsStep}
+use Rattle.step.specs.IsStep.{ForcedBy, Sound, Goal, New, Gained, IsStep}
 use Rattle.step.specs.Theorems.{step-is}
-use Rattle.log.specs.Contracts.{ForcedBy}
-
--- ---- what the given facts force
-
-module _ {t : Theory} (below : t .choices < 2 ^ t .variables) {c facts : LiteralSet} (fc : ForcedBy t c facts) where
-  yes-exact : Exactly t (facts .yes) (facts .no) 1 (c .yes)
-  yes-exact = rw (fc .yes-forced) (yes-exactly t (facts .yes) (facts .no))
-
-  no-exact : Exactly t (facts .yes) (facts .no) 0 (c .no)
-  no-exact = rw (fc .no-forced) (no-exactly t (facts .yes) (facts .no))
-
-  -- every model of the given facts makes all of the consequence true
-  pub consequence-model : (f : ℕ) → ModelOf t (facts .yes) (facts .no) f → ModelOf t (c .yes) (c .no) f
-  consequence-model f m = rw (fc .yes-forced, fc .no-forced) (forced-model t (facts .yes) (facts .no) f m)
-
-  within-choices : (d m : ℕ) → Exactly t (facts .yes) (facts .no) d m → Within m (t .choices)
-  within-choices d m x = record { keeps = λ v. go v (ℕ-discrete (bit m v) 1) }
-    where
-      go : (v : ℕ) → Dec (bit m v ≡ 1) → bit m v ≤ bit (t .choices) v
-      go v (yes e) = omega (arith, e, x .sound v e .0)
-      go v (no e) = omega (arith, bit-le m v)
-
-  pub yes-choices : Within (c .yes) (t .choices)
-  yes-choices = within-choices 1 _ yes-exact
-
-  pub no-choices : Within (c .no) (t .choices)
-  no-choices = within-choices 0 _ no-exact
-
-  pub yes-below : c .yes < 2 ^ t .variables
-  yes-below = yes-exact .below
-
-  pub no-below : c .no < 2 ^ t .variables
-  no-below = no-exact .below
-
-  -- a given fact over a choice is forced: it has its digit in every model
-  given-within : (d m con : ℕ) → Exactly t (facts .yes) (facts .no) d con → ((v f : ℕ) → bit m v ≡ 1 → ModelOf t (facts .yes) (facts .no) f → bit f v ≡ d)
-      → Within m (t .choices) → Within m con
-  given-within d m con x has-digit w = record { keeps = λ v. go v (ℕ-discrete (bit m v) 1) }
-    where
-      go : (v : ℕ) → Dec (bit m v ≡ 1) → bit m v ≤ bit con v
-      go v (yes e) =
-          let o : bit (t .choices) v ≡ 1 = omega (arith, e, w .keeps v, bit-le (t .choices) v) in
-          omega (arith, e, x .complete v (member-lt _ (t .choices) v o below) o (λ f k. has-digit v f e k))
-      go v (no e) = omega (arith, bit-le m v)
-
-  pub yes-given : Within (facts .yes) (t .choices) → Within (facts .yes) (c .yes)
-  yes-given = given-within 1 _ _ yes-exact (λ v f e m. omega (arith, e, m .keeps .keeps v, bit-le f v))
-
-  pub no-given : Within (facts .no) (t .choices) → Within (facts .no) (c .no)
-  no-given = given-within 0 _ _ no-exact (λ v f e m. omega (arith, e, m .avoids .avoids v))
-
-  -- where the given facts do not contradict the rules, a step can be asked for from any known set within what they force
-  module _ (some : contradicts t (facts .yes) (facts .no) ≡ false) where
-    pub consequence-has : (f : ℕ) × ModelOf t (c .yes) (c .no) f
-    consequence-has = let m = contradicts-not t (facts .yes) (facts .no) some in (m .0, consequence-model (m .0) (m .1))
-
-    pub consequence-apart : Apart (c .yes) (c .no)
-    consequence-apart =
-        let m = consequence-has in
-        record { avoids = λ v. omega (arith, m .1 .keeps .keeps v, m .1 .avoids .avoids v) }
-
-    pub sound-known : (table : List (List ℕ)) (known : LiteralSet) → Within (known .yes) (c .yes) → Within (known .no) (c .no) → Sound (asking t table c known)
-    sound-known table known y n =
-        record { choices-below = below; on-choices = yes-choices; off-choices = no-choices; known-on = y; known-off = n; model = consequence-has }
+use Rattle.step.specs.Laws.Known.{goals-at as goal-digits}
+use Rattle.step.specs.Laws.Given.{model-fewer, consequence-model, yes-exact, no-exact}
 
 -- ---- digits of the goals
 
@@ -108,13 +47,8 @@ module _ {t : Theory} {table : List (List ℕ)} {c facts : LiteralSet} (fc : For
   -- a model of the given facts makes the reasons true
   reasons-model : (f : ℕ) → ModelOf t (facts .yes) (facts .no) f → ModelOf t (s .reasons-on) (s .reasons-off) f
   reasons-model f m =
-      let w = consequence-model (a .choices-below) fc f m in
-      record {
-        below = m .below;
-        keeps = record { keeps = λ v. omega (arith, is .is-candidate .on-known .keeps v, a .known-on .keeps v, w .keeps .keeps v) };
-        avoids = record { avoids = λ v. omega (arith, is .is-candidate .off-known .keeps v, a .known-off .keeps v, w .avoids .avoids v) };
-        obeyed = m .obeyed;
-      }
+      model-fewer (within-trans _ _ _ (is .is-candidate .on-known) (a .known-on)) (within-trans _ _ _ (is .is-candidate .off-known) (a .known-off)) f
+      (consequence-model fc f m)
 
   -- so the new literals are of the consequence
   new-within : (d known m con : ℕ) → New t (s .reasons-on) (s .reasons-off) d known m → Exactly t (facts .yes) (facts .no) d con → Within m con
@@ -134,6 +68,9 @@ module _ {t : Theory} {table : List (List ℕ)} {c facts : LiteralSet} (fc : For
   new-no-within = new-within 0 _ _ _ (is .new-no) (no-exact (a .choices-below) fc)
 
   -- what is known next
+  in-union : (x y : ℕ) → Within x (union x y)
+  in-union x y = record { keeps = λ v. omega (arith, bit-union x y v) }
+
   more : LiteralSet
   more = record { yes = union (known .yes) (s .new-on); no = union (known .no) (s .new-off) }
 
@@ -145,12 +82,12 @@ module _ {t : Theory} {table : List (List ℕ)} {c facts : LiteralSet} (fc : For
     known-on = record { keeps = λ v. omega (arith, bit-union (known .yes) (s .new-on) v, a .known-on .keeps v, new-yes-within .keeps v) };
     known-off = record { keeps = λ v. omega (arith, bit-union (known .no) (s .new-off) v, a .known-off .keeps v, new-no-within .keeps v) };
     model = a .model;
+    forces = λ f m. a .forces f (model-fewer (in-union (known .yes) (s .new-on)) (in-union (known .no) (s .new-off)) f m);
   }
 
   -- the goals, by their digits
   goals-at : (k : LiteralSet) (v : ℕ) → bit (goals (asking t table c k)) v ≡ max (bit (c .yes) v - bit (k .yes) v) (bit (c .no) v - bit (k .no) v)
-  unfolding goals yesGoals noGoals
-  goals-at k v = bit-union (diff (c .yes) (k .yes)) (diff (c .no) (k .no)) v ∙ rw (bit-diff (c .yes) (k .yes) v, bit-diff (c .no) (k .no) v) refl
+  goals-at k v = goal-digits (asking t table c k) v
 
   fewer : Within (goals (asking t table c more)) (goals (asking t table c known))
   unfolding more

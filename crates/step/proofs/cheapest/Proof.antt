@@ -1,79 +1,42 @@
 -- `step::cheapest` meets its contract. Assumes nothing.
 use borrow.Author.Needs.{needs}
-use Rattle.step.specs.Contracts.{Searching}
-use Rattle.step.specs.Laws.Goals.{searching-laws}
+use Rattle.step.specs.Laws.Goals.{bound-laws}
 use Rattle.step.proofs.cheapest.Statement.{statement}
 use Rattle.step.proofs.cheapest.Tie as tie
 
-abbrev Inv-loop : tie.InvT-loop
-Inv-loop n yes' no' costs consequence known weights yes-goals no-goals left₀ best₀ left best = Searching n yes' no' costs consequence known left best
+weigh-requires : tie.Need-weigh-requires
+weigh-requires c κs = search (needs, bound-laws)
 
-abbrev μ-loop : tie.MeasureT-loop
-μ-loop n yes' no' costs consequence known weights yes-goals no-goals left₀ best₀ left best = left
+open-goals-requires : tie.Need-open-goals-requires
+open-goals-requires c κs = search needs
 
-weigh-requires : tie.Need-weigh-requires Inv-loop μ-loop
-weigh-requires c κs = search (needs, searching-laws)
+lowest-requires : tie.Need-lowest-requires
+lowest-requires c κs = search needs
 
-difference-requires : tie.Need-difference-requires Inv-loop μ-loop
-difference-requires c κs = search (needs, searching-laws)
+has-requires : tie.Need-has-requires
+has-requires c κs = search needs
 
-difference-requires-2 : tie.Need-difference-requires-2 Inv-loop μ-loop
-difference-requires-2 c κs = search (needs, searching-laws)
+aim-at-requires : tie.Need-aim-at-requires
+aim-at-requires c κs = search (needs, bound-laws)
 
-union-requires : tie.Need-union-requires Inv-loop μ-loop
-union-requires c κs = search (needs, searching-laws)
+known-key-requires : tie.Need-known-key-requires
+known-key-requires c κs = search (needs, bound-laws)
 
-loop-holds : tie.Need-loop-holds Inv-loop μ-loop
-loop-holds c = search (needs, searching-laws)
+cheapest-under-requires : tie.Need-cheapest-under-requires
+cheapest-under-requires c κs = search needs
 
-lowest-requires : tie.Need-lowest-requires Inv-loop μ-loop
-lowest-requires c κs = search (needs, searching-laws)
-
-has-requires : tie.Need-has-requires Inv-loop μ-loop
-has-requires c κs = search (needs, searching-laws)
-
-aim-at-requires : tie.Need-aim-at-requires Inv-loop μ-loop
-aim-at-requires c κs = search (needs, searching-laws)
-
-slice-aggregate-explore : tie.Need-slice-aggregate-explore Inv-loop μ-loop
-slice-aggregate-explore c = search (needs, searching-laws)
-
-all-sets-requires : tie.Need-all-sets-requires Inv-loop μ-loop
-all-sets-requires c κs = search (needs, searching-laws)
-
-explore-requires : tie.Need-explore-requires Inv-loop μ-loop
-explore-requires c κs = search (needs, searching-laws)
-
-remove-requires : tie.Need-remove-requires Inv-loop μ-loop
-remove-requires c κs = search (needs, searching-laws)
-
-loop-less : tie.Need-loop-less Inv-loop μ-loop
-loop-less c = search (needs, searching-laws)
-
-loop-again : tie.Need-loop-again Inv-loop μ-loop
-loop-again c = search (needs, searching-laws)
-
-returns : tie.Need-returns Inv-loop μ-loop
-returns c = search (needs, searching-laws)
+returns : tie.Need-returns
+returns c = search (needs, bound-laws)
 
 pub cheapest-spec : {M : Type 1} → statement M
 cheapest-spec =
     tie.close
     (tie.spec
-    Inv-loop
-    μ-loop
     weigh-requires
-    difference-requires
-    difference-requires-2
-    union-requires
-    loop-holds
+    open-goals-requires
     lowest-requires
     has-requires
     aim-at-requires
-    slice-aggregate-explore
-    all-sets-requires
-    explore-requires
-    remove-requires
-    loop-less
-    loop-again
+    known-key-requires
+    cheapest-under-requires
     returns)

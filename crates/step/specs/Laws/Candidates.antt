@@ -3,7 +3,6 @@ use mathlib.Core.Path.{_≡_, refl, sym, ap, subst, _∙_}
 use mathlib.Core.Logic.{_⊎_, inl, inr}
 use mathlib.Core.Bool.{Bool, true, false, false≢true}
 use mathlib.Core.List.{List, _∷_, _++_, List·Memᴰ, List·Memᴰ·head, List·Memᴰ·tail, List·Memᴰ·not-nil, List·Memᴰ·cases-cons, List·Memᴰ·append-cases, Memᴰ·append-left, Memᴰ·append-right}
-use mathlib.Core.Option.{Option, none, some}
 use Prim.Native.Nat.{ℕ, zero, suc, _^_, _<_}
 use native.Mathlib.Decide.{ℕ-discrete}
 use native.Mathlib.Omega.{arith}
@@ -11,7 +10,7 @@ use Rattle.sets.specs.Sets.{has, union, subset}
 use Rattle.sets.specs.Laws.Bits.{member-lt}
 use Rattle.sets.specs.Laws.Subset.{has-true, one-has, subset-within, within-subset, within-le}
 use Rattle.consequence.specs.Laws.Forcing.{contradicts-none, none-contradicts}
-use Rattle.step.specs.Meaning.{Question, goals, againstOn, againstOff, refutes, isCandidate, Candidate, firstOf, candidate, candidatesFor, candidatesBelow, candidates, theStep}
+use Rattle.step.specs.Meaning.{Question, goals, againstOn, againstOff, refutes, isCandidate, Candidate, firstOf, candidate, candidatesFor, candidatesBelow, candidates, allKnown, theStep}
 use Rattle.step.specs.IsStep.{Upto}
 use Rattle.step.specs.Contracts.{Picks}
 use Rattle.step.specs.Laws.Order.{FirstIn, first-in}
@@ -137,18 +136,17 @@ module _ (q : Question) where
     pub listed : Listed c
     pub first : (v s : ℕ) → Picks q v s → Upto c (candidate q v s)
 
-  abbrev pub TheStep : Option Candidate → Type 0
-  TheStep none = (v s : ℕ) → Picks q v s → ⊥
-  TheStep (some c) = Stepped c
-
-  pub the-step : Sized → TheStep (theStep q)
-  unfolding theStep
-  the-step z = go (firstOf (candidates q)) (first-in (candidates q))
+  -- the step is, where all of K with the goal of the lowest variable is one
+  pub the-step : Sized → Picks q (allKnown q .goal) (allKnown q .reasons) → Stepped (theStep q)
+  unfolding theStep allKnown candidate
+  the-step z x = record { listed = from (List·Memᴰ·cases-cons (it .member)); first = λ v s y. it .first (candidate q v s) (List·Memᴰ·tail (there v s y)) }
     where
-      go : (o : Option Candidate) → FirstIn (candidates q) o → TheStep o
-      go none f = λ v s x. f (candidate q v s) (candidates-complete v s (picks-goal v s z x) (picks-set v s z x) x)
-      go (some c) f =
-          record {
-            listed = candidates-sound c (f .0);
-            first = λ v s x. f .1 (candidate q v s) (candidates-complete v s (picks-goal v s z x) (picks-set v s z x) x);
-          }
+      it : FirstIn (allKnown q ∷ candidates q) (firstOf (allKnown q) (candidates q))
+      it = first-in (allKnown q) (candidates q)
+
+      from : {c : Candidate} → (c ≡ allKnown q) ⊎ List·Memᴰ c (candidates q) → Listed c
+      from {c} (inl e) = listed (allKnown q .goal) (allKnown q .reasons) c x e
+      from {c} (inr m) = candidates-sound c m
+
+      there : (v s : ℕ) → Picks q v s → List·Memᴰ (candidate q v s) (candidates q)
+      there v s y = candidates-complete v s (picks-goal v s z y) (picks-set v s z y) y

@@ -3,19 +3,20 @@ use mathlib.Core.Path.{_≡_, refl, sym, ap, ap₂, _∙_}
 use mathlib.Core.Logic.{_≢_, by-cases}
 use mathlib.Core.Bool.{Bool, true, false}
 use mathlib.Core.List.{List}
-use Prim.Native.Nat.{ℕ, zero, suc, _+_, _*_, _≤_, _<_, min}
+use Prim.Native.Nat.{ℕ, zero, suc, _+_, _*_, _^_, _≤_, _<_, min}
 use native.Mathlib.Nat.{mul-le-mul-right, suc-mul}
-use native.Mathlib.Decide.{ℕ-discrete}
+use native.Mathlib.Decide.{ℕ-discrete, decLe}
+use native.Mathlib.Numerals.{add-one}
 use native.Mathlib.Omega.{arith}
-use lib.ListN.{length, getD, set, length-set}
+use lib.ListN.{length, getD, set, length-set, List·getD-eq-default}
 use lib.Seq.{getD-set-same, getD-set-other}
 use Rattle.sets.specs.Sets.{bit, has, inter, insert, Within, Apart}
-use Rattle.sets.specs.Laws.Bits.{bit-le, bit-zero, bit-inter, bit-insert-same, bit-insert-other}
+use Rattle.sets.specs.Laws.Bits.{bit-le, bit-zero, bit-high, bit-inter, bit-insert-same, bit-insert-other}
 use Rattle.sets.specs.Laws.Subset.{has-true, has-false}
 use Rattle.book.specs.Limits.{maxChoices}
 use Rattle.problem.specs.Problem.{costOf, literalCost}
 use Rattle.step.specs.Meaning.{sumBelow, setCost, literalOf}
-use Rattle.step.specs.Contracts.{weightOf, Weighed, total}
+use Rattle.step.specs.Contracts.{weightOf, Weighed, total, sumOf}
 
 -- ---- sums
 
@@ -47,6 +48,19 @@ sum-one (suc n) f g v k h e s = go (ℕ-discrete v n) (sum-one n f g v k)
         let below : sumBelow n f ≡ sumBelow n g = sum-same n f g (λ u l. s u (λ q. omega arith)) in
         omega (arith, ap f p, ap g p)
     go (no p) ih = omega (arith, ih (omega arith) e s, s n (λ q. p (sym q)))
+
+-- a sum of fewer is no greater
+pub sum-part : (k n : ℕ) (f : ℕ → ℕ) → n ≤ k → sumBelow n f ≤ sumBelow k f
+unfolding sumBelow
+sum-part zero n f h = let none : n ≡ 0 = omega arith in rw none (omega arith)
+sum-part (suc k) n f h = by-cases (ℕ-discrete n (suc k)) (λ p. rw p (omega arith)) (λ p. omega (arith, sum-part k n f (omega arith)))
+
+-- what comes after n adds nothing
+pub sum-rest : (k n : ℕ) (f : ℕ → ℕ) → n ≤ k → ((v : ℕ) → n ≤ v → f v ≡ 0) → sumBelow k f ≡ sumBelow n f
+unfolding sumBelow
+sum-rest zero n f h e = let none : 0 ≡ n = omega arith in ap (λ (k : ℕ). sumBelow k f) none
+sum-rest (suc k) n f h e =
+    by-cases (ℕ-discrete n (suc k)) (λ p. ap (λ (m : ℕ). sumBelow m f) (sym p)) (λ p. omega (arith, sum-rest k n f (omega arith) e, e k (omega arith)))
 
 -- ---- digits times costs
 
@@ -98,6 +112,25 @@ module _ (ws : List ℕ) (n : ℕ) where
   pub total-bound : (s k : ℕ) → ((v : ℕ) → getD ws v 0 ≤ k) → total ws n s ≤ n * k
   unfolding total
   total-bound s k b = sum-bound n k _ (λ v. omega (arith, digit-le (bit s v) 1 (getD ws v 0) (bit-le s v), b v))
+
+  -- where only elements of s weigh, and are below n, that is the sum of all
+  pub total-all : (s : ℕ) → length ws ≡ maxChoices → ((v : ℕ) → bit s v ≡ 0 → getD ws v 0 ≡ 0) → s < 2 ^ n → sumOf ws ≡ total ws n s
+  unfolding total
+  total-all s l none h =
+      by-cases (decLe n maxChoices)
+      (λ k. sum-rest maxChoices n weight k (λ v i. none v (bit-high n s v h i)) ∙ each)
+      (λ k. sym (sum-rest n maxChoices weight (omega arith) (λ v i. List·getD-eq-default ws 0 {n = v} (omega arith))) ∙ each)
+    where
+      weight : ℕ → ℕ
+      weight v = getD ws v 0
+
+      digit : (d g : ℕ) → d ≤ 1 → (d ≡ 0 → g ≡ 0) → g ≡ d * g
+      digit zero g k e = omega (arith, e refl)
+      digit (suc zero) g k e = omega arith
+      digit (suc (suc d)) g k e = absurd (omega arith)
+
+      each : sumBelow n weight ≡ sumBelow n (λ v. bit s v * getD ws v 0)
+      each = sum-same n _ _ (λ v i. digit (bit s v) (getD ws v 0) (bit-le s v) (none v))
 
 -- ---- the cost of reasons with a goal's opposite
 
@@ -212,3 +245,25 @@ module _ (table : List (List ℕ)) (on off v : ℕ) where
         ap (λ (x : ℕ). x * costOf table v 0) (has-false on v (sym e ∙ t)),
         ap (λ (x : ℕ). x * costOf table v 1) (has-false off v (sym d ∙ s)),
       )
+
+-- ---- `sum`
+
+pub record SummedTo (ws : List ℕ) (sum i : ℕ) : Type 0 where
+  pub done : i ≤ maxChoices
+  pub is : sum ≡ sumBelow i (λ v. getD ws v 0)
+
+module _ {ws : List ℕ} where
+  pub summed-none : SummedTo ws 0 0
+  unfolding sumBelow
+  summed-none = record { done = omega arith; is = refl }
+
+  pub summed-more : {sum i : ℕ} → SummedTo ws sum i → i < maxChoices → SummedTo ws (sum + getD ws i 0) (i + 1)
+  unfolding sumBelow
+  summed-more x h = rw add-one (record { done = omega arith; is = omega (arith, x .is) })
+
+  -- no part of the sum is above it
+  pub summed-fits : {sum i : ℕ} → SummedTo ws sum i → i < maxChoices → sum + getD ws i 0 ≤ sumOf ws
+  summed-fits {sum} {i} x h = let y = summed-more x h in omega (arith, y .is, sum-part maxChoices (i + 1) (λ v. getD ws v 0) (y .done))
+
+  pub summed-all : {sum i : ℕ} → SummedTo ws sum i → maxChoices ≤ i → sum ≡ sumOf ws
+  summed-all {sum} {i} x h = let end : i ≡ maxChoices = omega (arith, x .done) in x .is ∙ ap (λ (k : ℕ). sumBelow k (λ v. getD ws v 0)) end

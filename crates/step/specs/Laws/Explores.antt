@@ -72,7 +72,7 @@ module _ {n : ℕ} {ys ns ws : List ℕ} {aim : Aim} where
   known-below x = union-lt n (aim .on) (aim .off) (x .posed .on-below) (x .posed .off-below)
 
   -- a set of known variables
-  known-small : (s : ℕ) → Sought n ys ns ws aim → Within s (union (aim .on) (aim .off)) → Small (aim .cost + total ws n s) (aim .goal) s
+  pub known-small : (s : ℕ) → Sought n ys ns ws aim → Within s (union (aim .on) (aim .off)) → Small (aim .cost + total ws n s) (aim .goal) s
   known-small s x w =
       let bound : 2 ^ length ws ≤ 2 ^ maxChoices = pow-mono (x .rows) in
       record {

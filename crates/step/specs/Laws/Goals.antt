@@ -13,23 +13,16 @@ use Rattle.sets.specs.Laws.Subset.{has-true, has-false, one-has, zero-has, with
 use Rattle.literals.specs.declared.LiteralSet.{LiteralSet}
 use Rattle.sat.specs.Contracts.{Posed}
 use Rattle.book.specs.Limits.{maxChoices, maxCost}
-use Rattle.consequence.specs.Laws.Masks.{none-to-theory, none-of-theory}
+use Rattle.consequence.specs.Laws.Masks.{to-theory, of-theory, none-to-theory, none-of-theory}
 use Rattle.problem.specs.Problem.{costOf, literalCost}
 use Rattle.step.specs.Meaning.{Question, setCost, literalOf, yesGoals, noGoals, goals, reasonsOn, reasonsOff, againstOn, againstOff, candidateCost}
-use Rattle.step.specs.Cheapest.{Least, InInterval, least-none, least-both, least-same, remove-within, remove-less}
-use Rattle.step.specs.Contracts.{weightOf, Weighed, total, keyOf, Small, aimOn, aimOff, Refutes, keyAt, Sought, Exploring, Explored, maskQuestion, aimAt, whole, Ready, Picks, GoalAndSet, keyOfPair, noKey, LeastFound, Trying, Searching}
-use Rattle.step.specs.Laws.Explores.{aim-posed}
+use Rattle.step.specs.Cheapest.{Least, InInterval, least-minimum, least-none, least-both, least-same, remove-within, remove-less}
+use Rattle.step.specs.Contracts.{weightOf, Weighed, total, sumOf, keyOf, Small, aimOn, aimOff, Refutes, keyAt, Sought, Exploring, Explored, maskQuestion, aimAt, whole, openGoals, Ready, ReadyWithGoal, Picks, GoalAndSet, keyOfPair, LeastUnder, LeastFound, Trying, Searching}
+use Rattle.step.specs.Laws.Explores.{aim-posed, known-small}
+use Rattle.step.specs.Laws.Known.{cond-not, sign-of, Forcing, all-picked}
 use Rattle.step.specs.declared.Aim.{Aim}
 use Rattle.step.specs.declared.Part.{Part}
-use Rattle.step.specs.Laws.Costs.{one-cost, set-bound, total-zero, total-bound, cost-with-yes, cost-with-no}
-
--- The variables of the goals.
-abbrev pub openGoals : LiteralSet → LiteralSet → ℕ
-openGoals c k = union (diff (c .yes) (k .yes)) (diff (c .no) (k .no))
-
-pub cond-not : (a : Bool) (x y : ℕ) → cond (not a) x y ≡ cond a y x
-cond-not true x y = refl
-cond-not false x y = refl
+use Rattle.step.specs.Laws.Costs.{one-cost, set-bound, total-zero, total-bound, total-all, cost-with-yes, cost-with-no}
 
 -- the cost of reasons with the opposite of what a goal says
 opposite-cost : (table : List (List ℕ)) (ws : List ℕ) (on off : ℕ) → ((v : ℕ) → getD ws v 0 ≡ weightOf table on off v) → (n s v : ℕ) → v < n
@@ -56,16 +49,6 @@ pub record Open (n : ℕ) (c k : LiteralSet) (v : ℕ) : Type 0 where
   pub row : v < maxChoices
   pub signed : has (diff (c .no) (k .no)) v ≡ not (has (diff (c .yes) (k .yes)) v)
   pub says : has (c .yes) v ≡ has (diff (c .yes) (k .yes)) v
-
--- where the consequence says yes or no, a goal does
-pub sign-of : (on off a b v : ℕ) → bit on v + bit off v ≤ 1 → bit (union (diff on a) (diff off b)) v ≡ 1 → has (diff off b) v ≡ not (has (diff on a) v)
-sign-of on off a b v h e = go (has (diff on a) v) refl
-  where
-    go : (s : Bool) → has (diff on a) v ≡ s → has (diff off b) v ≡ not s
-    go true p = zero-has (diff off b) v (omega (arith, has-true (diff on a) v p, bit-diff on a v, bit-diff off b v))
-    go false p =
-        one-has (diff off b) v
-        (omega (arith, e, has-false (diff on a) v p, bit-union (diff on a) (diff off b) v, bit-le (diff off b) v))
 
 goal-at : (c k : LiteralSet) (v : ℕ) → bit (openGoals c k) v ≡ max (bit (c .yes) v - bit (k .yes) v) (bit (c .no) v - bit (k .no) v)
 goal-at c k v = omega (arith, bit-union (diff (c .yes) (k .yes)) (diff (c .no) (k .no)) v, bit-diff (c .yes) (k .yes) v, bit-diff (c .no) (k .no) v)
@@ -133,6 +116,18 @@ module _ {n : ℕ} {ys ns : List ℕ} {table : List (List ℕ)} {c k : LiteralSe
             ap (λ (d : ℕ). d * costOf table v 0) on,
             ap (λ (d : ℕ). d * costOf table v 1) off,
           )
+
+  -- a variable that is not known weighs nothing
+  weight-none : {ws : List ℕ} → Weighed table (k .yes) (k .no) ws → (v : ℕ) → bit (union (k .yes) (k .no)) v ≡ 0 → getD ws v 0 ≡ 0
+  unfolding weightOf
+  weight-none w v none =
+      let on : bit (k .yes) v ≡ 0 = omega (arith, bit-union (k .yes) (k .no) v) in
+      let off : bit (k .no) v ≡ 0 = omega (arith, bit-union (k .yes) (k .no) v) in
+      omega (arith, all-weighed w v, ap (λ (d : ℕ). d * costOf table v 0) on, ap (λ (d : ℕ). d * costOf table v 1) off)
+
+  known-total : {ws : List ℕ} → Weighed table (k .yes) (k .no) ws → sumOf ws ≡ total ws n (union (k .yes) (k .no))
+  known-total {ws} w =
+      total-all ws n (union (k .yes) (k .no)) (w .rows) (weight-none w) (union-lt n (k .yes) (k .no) (known-posed .on-below) (known-posed .off-below))
 
   weight-cheap : {ws : List ℕ} → Weighed table (k .yes) (k .no) ws → (v : ℕ) → getD ws v 0 ≤ maxCost
   unfolding weightOf
@@ -248,20 +243,16 @@ module _ {n : ℕ} {ys ns : List ℕ} {table : List (List ℕ)} {c k : LiteralSe
 
 -- ---- the steps of the search over all goals
 
-module _ {n : ℕ} {ys ns : List ℕ} {table : List (List ℕ)} {c k : LiteralSet} where
-  pub searching-start : {y z left : ℕ} → y ≡ diff (c .yes) (k .yes) → z ≡ diff (c .no) (k .no) → left ≡ union y z
-      → Searching n ys ns table c k left noKey
+module _ {n : ℕ} {ys ns : List ℕ} {table : List (List ℕ)} {c k : LiteralSet} {bound : ℕ} where
+  pub searching-start : {left : ℕ} → left ≡ openGoals c k → Searching n ys ns table c k bound left bound
   unfolding goals yesGoals noGoals
-  searching-start {left = left} p q e =
+  searching-start {left} e =
       record {
-        untried = rw all (within-refl (openGoals c k));
-        cheapest = λ ch. least-none (λ t h. omega (arith, h .tried, h .picks .goal, ap (λ (m : ℕ). bit m (t .goal)) all));
+        untried = rw e (within-refl (openGoals c k));
+        cheapest = λ ch. least-none (λ t h. omega (arith, h .tried, h .picks .goal, ap (λ (m : ℕ). bit m (t .goal)) e));
       }
-    where
-      all : left ≡ openGoals c k
-      all = e ∙ ap₂ (λ (a : ℕ) (b : ℕ). union a b) p q
 
-  pub searching-done : {left best : ℕ} → Searching n ys ns table c k left best → left ≡ 0 → LeastFound n ys ns table c k best
+  pub searching-done : {left best : ℕ} → Searching n ys ns table c k bound left best → left ≡ 0 → LeastUnder n ys ns table c k bound best
   searching-done {left} {best} s e =
       record {
         cheapest = λ ch.
@@ -269,7 +260,7 @@ module _ {n : ℕ} {ys ns : List ℕ} {table : List (List ℕ)} {c k : LiteralSe
             (λ t h. (t, h .picks, refl)) (s .cheapest ch);
       }
 
-  module _ (x : Ready n ys ns table c k) {left best v : ℕ} (s : Searching n ys ns table c k left best) (l : Lowest left v) where
+  module _ (x : Ready n ys ns table c k) {left best v : ℕ} (s : Searching n ys ns table c k bound left best) (l : Lowest left v) where
     pub searching-open : Open n c k v
     searching-open =
         goal-open x v (omega (arith, l .least .member, s .untried .keeps v, bit-le (openGoals c k) v))
@@ -282,7 +273,7 @@ module _ {n : ℕ} {ys ns : List ℕ} {table : List (List ℕ)} {c k : LiteralSe
       searching-explore = rw (b, a) (goal-exploring x w v searching-open says)
 
       -- one goal more is tried
-      pub searching-more : {r rest : ℕ} → Explored n ys ns ws aim part best r → rest ≡ remove left v → Searching n ys ns table c k rest r
+      pub searching-more : {r rest : ℕ} → Explored n ys ns ws aim part best r → rest ≡ remove left v → Searching n ys ns table c k bound rest r
       searching-more {r} {rest} e d =
           rw d
           (record {
@@ -310,7 +301,60 @@ module _ {n : ℕ} {ys ns : List ℕ} {table : List (List ℕ)} {c k : LiteralSe
                 tried = ap (bit (remove left v)) (h .same) ∙ bit-remove-same left v;
               }
 
-  pub searching-less : {left best v rest : ℕ} → Searching n ys ns table c k left best → Lowest left v → rest ≡ remove left v → rest < left
+  pub searching-less : {left best v rest : ℕ} → Searching n ys ns table c k bound left best → Lowest left v → rest ≡ remove left v → rest < left
   searching-less {left} {best} {v} s l e = omega (arith, e, remove-less left v (l .least .member))
 
-pub ruleset searching-laws = (known-apart, searching-start, searching-row, searching-explore, searching-more, searching-less, searching-done)
+pub ruleset searching-laws = (searching-start, searching-row, searching-explore, searching-more, searching-less, searching-done)
+
+-- ---- the bound: all that is known with the lowest goal
+
+module _ {n : ℕ} {ys ns : List ℕ} {table : List (List ℕ)} {c k : LiteralSet} (x : ReadyWithGoal n ys ns table c k) where
+  -- K forces the consequence, whatever the choices are
+  forcing : (ch : ℕ) → Forcing (maskQuestion n ys ns ch table c k)
+  forcing ch =
+      record {
+        known-on = x .ready .known-yes;
+        known-off = x .ready .known-no;
+        apart = x .ready .posed .apart;
+        forces = λ f m. to-theory ch (x .forces f (of-theory ch m));
+      }
+
+  pub bound-apart : Apart (k .yes) (k .no)
+  bound-apart = known-apart (x .ready)
+
+  pub bound-some : {goals : ℕ} → goals ≡ openGoals c k → 0 < goals
+  bound-some e = rw e (x .goal-left)
+
+  module _ {goals v : ℕ} (e : goals ≡ openGoals c k) (l : Lowest goals v) where
+    lowest-open : Open n c k v
+    lowest-open = goal-open (x .ready) v (rw e at (l .least .member))
+
+    pub bound-row : v < maxChoices
+    bound-row = lowest-open .row
+
+    module _ {ws : List ℕ} {says : Bool} {aim : Aim} (w : Weighed table (k .yes) (k .no) ws) (s : says ≡ has (c .yes) v) (a : aim ≡ aimAt table k v says) where
+      pub bound-small : Small (aim .cost + sumOf ws) (aim .goal) (union (aim .on) (aim .off))
+      bound-small =
+          rw (a, known-total (x .ready) w)
+          (known-small (union (k .yes) (k .no)) (goal-sought (x .ready) w v lowest-open says) (within-refl (union (k .yes) (k .no))))
+
+      -- the least under it is the least of all
+      pub bound-least : {bound r : ℕ} → bound ≡ keyOf (aim .cost + sumOf ws) (aim .goal) (union (aim .on) (aim .off)) → LeastUnder n ys ns table c k bound r
+          → LeastFound n ys ns table c k r
+      unfolding goals yesGoals noGoals
+      bound-least {bound} b f =
+          record {
+            cheapest = λ ch.
+                least-minimum (f .cheapest ch) (record { goal = v; set = union (k .yes) (k .no) })
+                (all-picked (maskQuestion n ys ns ch table c k) (forcing ch) v (lowest-open .isGoal)) (b ∙ same ch);
+          }
+        where
+          all : ℕ
+          all = union (k .yes) (k .no)
+
+          same : (ch : ℕ) → keyOf (aim .cost + sumOf ws) (aim .goal) (union (aim .on) (aim .off)) ≡ keyOf (candidateCost (maskQuestion n ys ns ch table c k) v all) v all
+          same ch =
+              rw (a, known-total (x .ready) w, s, lowest-open .says)
+              (ap (λ (d : ℕ). keyOf d v (union (k .yes) (k .no))) (aim-cost (x .ready) ch v lowest-open (union (k .yes) (k .no)) w))
+
+pub ruleset bound-laws = (bound-apart, bound-some, bound-row, bound-small, bound-least)

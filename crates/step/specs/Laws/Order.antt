@@ -4,14 +4,13 @@ use mathlib.Core.Path.{_≡_, refl, sym, subst, _∙_}
 use mathlib.Core.Logic.{_⊎_, inl, inr}
 use mathlib.Core.Bool.{Bool, true, false, _&&_, _||_, true≢false, false≢true}
 use mathlib.Core.List.{List, [], _∷_, List·Memᴰ, List·Memᴰ·head, List·Memᴰ·tail, List·Memᴰ·not-nil, List·Memᴰ·cases-cons}
-use mathlib.Core.Option.{Option, none, some}
 use Prim.Native.Nat.{ℕ, _/_, _%_, _≤_, _<_}
 use native.Mathlib.Omega.{arith}
 use lib.Dec.{ltb, eqb}
 use borrow.Author.Tests.{ltb-true, ltb-false, eqb-true, eqb-false, lt-ltb, le-ltb}
 use Rattle.step.specs.Meaning.{Candidate, before, earlier, firstOf}
 use Rattle.step.specs.IsStep.{Lex, Upto}
-use Rattle.step.specs.Contracts.{setRoom, goalRoom, noKey, keyOf, Small}
+use Rattle.step.specs.Contracts.{setRoom, goalRoom, keyOf, Small}
 
 -- ---- the order as facts
 
@@ -68,34 +67,47 @@ upto-cost (inr h) = omega (arith, h .0)
 
 -- ---- the first of a list
 
--- What `firstOf` gives: nothing of the empty list, and a member that comes before all others.
-abbrev pub FirstIn : List Candidate → Option Candidate → Type 0
-FirstIn cs none = (c : Candidate) → List·Memᴰ c cs → ⊥
-FirstIn cs (some d) = List·Memᴰ d cs × ((c : Candidate) → List·Memᴰ c cs → Upto d c)
+-- What `firstOf` gives: a member that comes before all others.
+pub record FirstIn (cs : List Candidate) (d : Candidate) : Type 0 where
+  pub member : List·Memᴰ d cs
+  pub first : (c : Candidate) → List·Memᴰ c cs → Upto d c
 
-pub first-in : (cs : List Candidate) → FirstIn cs (firstOf cs)
+pub first-in : (c : Candidate) (cs : List Candidate) → FirstIn (c ∷ cs) (firstOf c cs)
 unfolding firstOf
-first-in [] = λ c m. List·Memᴰ·not-nil m
-first-in (c ∷ cs) = go (firstOf cs) (first-in cs)
+first-in c [] = record { member = List·Memᴰ·head refl; first = λ x m. alone x (List·Memᴰ·cases-cons m) }
   where
-    alone : FirstIn cs none → (x : Candidate) → (x ≡ c) ⊎ List·Memᴰ x cs → Upto c x
-    alone f x (inl p) = subst (Upto c) (sym p) (upto-refl c)
-    alone f x (inr m) = absurd (f x m)
+    alone : (x : Candidate) → (x ≡ c) ⊎ List·Memᴰ x [] → Upto c x
+    alone x (inl p) = subst (Upto c) (sym p) (upto-refl c)
+    alone x (inr m) = absurd (List·Memᴰ·not-nil m)
+first-in c (d ∷ ds) = go (earlier d c) refl (first-in d ds) (first-in c ds)
+  where
+    -- one more, which the first comes before
+    more : (e f : Candidate) → Upto e f → ((x : Candidate) → List·Memᴰ x ds → Upto e x) → (x : Candidate) → (x ≡ f) ⊎ List·Memᴰ x ds → Upto e x
+    more e f h k x (inl p) = subst (Upto e) (sym p) h
+    more e f h k x (inr m) = k x m
 
-    rest : (d : Candidate) → Upto d c → ((x : Candidate) → List·Memᴰ x cs → Upto d x) → (x : Candidate) → (x ≡ c) ⊎ List·Memᴰ x cs → Upto d x
-    rest d h f x (inl p) = subst (Upto d) (sym p) h
-    rest d h f x (inr m) = f x m
+    both : (e : Candidate) → Upto e c → Upto e d → ((x : Candidate) → List·Memᴰ x ds → Upto e x) → (x : Candidate) → (x ≡ c) ⊎ List·Memᴰ x (d ∷ ds) → Upto e x
+    both e h i k x (inl p) = subst (Upto e) (sym p) h
+    both e h i k x (inr m) = more e d i k x (List·Memᴰ·cases-cons m)
 
-    pick : (d : Candidate) (b : Bool) → earlier d c ≡ b → FirstIn cs (some d)
-        → FirstIn (c ∷ cs) (some (elim b [ true ↦ d | false ↦ c ]))
-    pick d true e f = (List·Memᴰ·tail (f .0), λ x m. rest d (weaken (earlier-true d c e)) (f .1) x (List·Memᴰ·cases-cons m))
-    pick d false e f =
-        (List·Memᴰ·head refl, λ x m. rest c (upto-refl c) (λ y k. upto-trans (earlier-false d c e) (f .1 y k)) x (List·Memᴰ·cases-cons m))
+    skip : {e : Candidate} → (e ≡ c) ⊎ List·Memᴰ e ds → List·Memᴰ e (c ∷ d ∷ ds)
+    skip (inl p) = List·Memᴰ·head p
+    skip (inr m) = List·Memᴰ·tail (List·Memᴰ·tail m)
 
-    go : (o : Option Candidate) → FirstIn cs o
-        → FirstIn (c ∷ cs) (elim o [ none ↦ some c | some d ↦ some (elim (earlier d c) [ true ↦ d | false ↦ c ]) ])
-    go none f = (List·Memᴰ·head refl, λ x m. alone f x (List·Memᴰ·cases-cons m))
-    go (some d) f = pick d (earlier d c) refl f
+    go : (b : Bool) → earlier d c ≡ b → FirstIn (d ∷ ds) (firstOf d ds) → FirstIn (c ∷ ds) (firstOf c ds)
+        → FirstIn (c ∷ d ∷ ds) (elim b [ true ↦ firstOf d ds | false ↦ firstOf c ds ])
+    go true e f g =
+        let i = f .first d (List·Memᴰ·head refl) in
+        record {
+          member = List·Memᴰ·tail (f .member);
+          first = λ x m. both _ (upto-trans i (weaken (earlier-true d c e))) i (λ y k. f .first y (List·Memᴰ·tail k)) x (List·Memᴰ·cases-cons m);
+        }
+    go false e f g =
+        let h = g .first c (List·Memᴰ·head refl) in
+        record {
+          member = skip (List·Memᴰ·cases-cons (g .member));
+          first = λ x m. both _ h (upto-trans h (earlier-false d c e)) (λ y k. g .first y (List·Memᴰ·tail k)) x (List·Memᴰ·cases-cons m);
+        }
 
 -- ---- the order as one number
 
@@ -136,7 +148,3 @@ decode cost goal s x =
       goal-of = omega (arith, x .goal-small, x .set-small);
       set-of = omega (arith, x .set-small);
     }
-
--- no candidate's key is above that of none
-pub key-below : (cost goal s : ℕ) → Small cost goal s → keyOf cost goal s < noKey
-key-below cost goal s x = omega (arith, x .cost-small, x .goal-small, x .set-small)

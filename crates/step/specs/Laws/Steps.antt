@@ -2,11 +2,8 @@
 use mathlib.Core.Path.{_≡_, refl, sym, ap, ap₂, subst, _∙_}
 use mathlib.Core.Bool.{Bool, true, false, true≢false, false≢true}
 use mathlib.Core.List.{List}
-use mathlib.Core.Option.{Option, none, some}
-use Prim.Native.Nat.{ℕ, _/_, _%_, _≤_}
+use Prim.Native.Nat.{ℕ, _/_, _%_, _≤_, _<_}
 use native.Mathlib.Omega.{arith}
-use lib.Dec.{eqb}
-use borrow.Author.Tests.{eq-eqb, ne-eqb}
 use Rattle.sets.specs.Sets.{bit, has, union, inter, diff}
 use Rattle.sets.specs.Laws.Bits.{bit-inter, bit-union, union-lt, diff-lt, pos-of-member}
 use Rattle.sets.specs.Laws.Subset.{within-trans, within-le}
@@ -18,19 +15,19 @@ use Rattle.consequence.specs.Laws.Forcing.{model-contradicts}
 use Rattle.consequence.specs.Laws.Masks.{to-theory}
 use Rattle.consequence.specs.declared.Consequence.{Consequence}
 use Rattle.consequence.specs.declared.Consequence.the-variants.{NoModel as Contradiction, Forced}
-use Rattle.step.specs.Meaning.{Question, literalOf, yesGoals, noGoals, goals, goalLiteral, reasonsOn, reasonsOff, candidateCost, Candidate, candidate, theStep, nothingLeft, step, newOn, newOff, stepFrom, answerFrom, stepOf}
-use Rattle.step.specs.Cheapest.{least-some}
-use Rattle.step.specs.Contracts.{setRoom, goalRoom, keyOf, Small, maskQuestion, Ready, Picks, GoalAndSet, keyOfPair, noKey, LeastFound, Reasoned, Learnt, Asked, Chosen, stepAt, nextOf}
-use Rattle.step.specs.Laws.Order.{upto-key, Decoded, decode, key-below}
+use Rattle.step.specs.Meaning.{Question, literalOf, yesGoals, noGoals, goals, goalLiteral, reasonsOn, reasonsOff, candidateCost, Candidate, candidate, theStep, step, newOn, newOff, stepFrom, stepOf}
+use Rattle.step.specs.Contracts.{setRoom, goalRoom, keyOf, Small, maskQuestion, openGoals, Ready, ReadyWithGoal, Picks, GoalAndSet, keyOfPair, LeastFound, Reasoned, Learnt, Asked, Chosen, stepAt, nextOf}
+use Rattle.step.specs.Laws.Order.{upto-key, Decoded, decode}
 use Rattle.step.specs.Laws.Explores.{reasons-posed}
-use Rattle.step.specs.Laws.Candidates.{Sized, TheStep, the-step}
+use Rattle.step.specs.Laws.Candidates.{Stepped}
 use Rattle.step.specs.Laws.Goals.{goal-open, known-posed, against-small}
+use Rattle.step.specs.Laws.TheStep.{taken, step-left, step-open, asked-sound}
 use Rattle.step.specs.declared.Next.{Next}
 
 -- The candidate that a key stands for is the step.
 pub record IsKeyOfStep (q : Question) (best : ℕ) : Type 0 where
   pub picks : Picks q (best / setRoom % goalRoom) (best % setRoom)
-  pub taken : theStep q ≡ some (candidate q (best / setRoom % goalRoom) (best % setRoom))
+  pub taken : theStep q ≡ candidate q (best / setRoom % goalRoom) (best % setRoom)
   pub costs : candidateCost q (best / setRoom % goalRoom) (best % setRoom) ≡ best / setRoom / goalRoom
 
 module _ {n : ℕ} {ys ns : List ℕ} {ch : ℕ} {table : List (List ℕ)} {c k : LiteralSet} where
@@ -50,80 +47,60 @@ module _ {n : ℕ} {ys ns : List ℕ} {ch : ℕ} {table : List (List ℕ)} {c k 
       both : (v : ℕ) → bit (union (c .yes) (c .no)) v ≤ bit ch v
       both v = omega (arith, bit-union (c .yes) (c .no) v, a .yes-choices .keeps v, a .no-choices .keeps v)
 
-module _ {n : ℕ} {ys ns : List ℕ} {table : List (List ℕ)} {c k : LiteralSet} (ch : ℕ) (x : Ready n ys ns table c k) where
-  pub ready-sized : Sized (maskQuestion n ys ns ch table c k)
-  unfolding goals yesGoals noGoals
-  ready-sized =
-      record {
-        goals-below = union-lt n _ _ (diff-lt n (c .yes) (k .yes) (x .posed .on-below)) (diff-lt n (c .no) (k .no) (x .posed .off-below));
-        known-below = union-lt n (k .yes) (k .no) (known-posed x .on-below) (known-posed x .off-below);
-      }
+  pub asked-goal : {g : ℕ} → Asked n ys ns ch table c k → g ≡ openGoals c k → (g ≡ 0 → ⊥) → ReadyWithGoal n ys ns table c k
+  asked-goal a e left =
+      let ne : openGoals c k ≡ 0 → ⊥ = λ d. left (e ∙ d) in
+      record { ready = asked-ready a; forces = a .forces; goal-left = omega arith }
 
+module _ {n : ℕ} {ys ns : List ℕ} {table : List (List ℕ)} {c k : LiteralSet} (ch : ℕ) (x : Ready n ys ns table c k) where
   pub picks-small : (v s : ℕ) → Picks (maskQuestion n ys ns ch table c k) v s → Small (candidateCost (maskQuestion n ys ns ch table c k) v s) v s
   unfolding goals yesGoals noGoals
   picks-small v s p = against-small x ch v (goal-open x v (p .goal)) s (p .known)
 
-  -- ---- no candidate
-
-  pub none-found : {best : ℕ} → LeastFound n ys ns table c k best → best ≡ noKey → theStep (maskQuestion n ys ns ch table c k) ≡ none
-  none-found {best} f e = go (theStep (maskQuestion n ys ns ch table c k)) (the-step (maskQuestion n ys ns ch table c k) ready-sized)
-    where
-      q : Question
-      q = maskQuestion n ys ns ch table c k
-
-      go : (o : Option Candidate) → TheStep q o → o ≡ none
-      go none t = refl
-      go (some d) t =
-          absurd (omega (
-            arith,
-            f .cheapest ch .least (record { goal = d .goal; set = d .reasons }) (t .listed .picks),
-            key-below _ _ _ (picks-small (d .goal) (d .reasons) (t .listed .picks)),
-          ))
-
   -- ---- the candidate that a key stands for
 
-  pub some-found : {best : ℕ} → LeastFound n ys ns table c k best → (best ≡ noKey → ⊥) → IsKeyOfStep (maskQuestion n ys ns ch table c k) best
+  pub found : {best : ℕ} → LeastFound n ys ns table c k best → Stepped (maskQuestion n ys ns ch table c k) (theStep (maskQuestion n ys ns ch table c k))
+      → IsKeyOfStep (maskQuestion n ys ns ch table c k) best
   unfolding candidate
-  some-found {best} f ne = go (theStep q) refl (the-step q ready-sized)
+  found {best} f t =
+      record {
+        picks = rw (z .goal-of, z .set-of) p;
+        taken = t .listed .is ∙ ap₂ (candidate q) (sym (z .goal-of)) (sym (z .set-of));
+        costs = rw (z .goal-of, z .set-of) (sym (z .cost-of));
+      }
     where
       q : Question
       q = maskQuestion n ys ns ch table c k
 
+      d : Candidate
+      d = theStep q
+
       least : (t : GoalAndSet) × Picks q (t .goal) (t .set) × (best ≡ keyOfPair q t)
-      least = least-some (f .cheapest ch) ne
+      least = f .cheapest ch .from
 
-      go : (o : Option Candidate) → theStep q ≡ o → TheStep q o → IsKeyOfStep q best
-      go none e t = absurd (t (least .0 .goal) (least .0 .set) (least .1))
-      go (some d) e t =
-          record {
-            picks = rw (z .goal-of, z .set-of) p;
-            taken = e ∙ ap {B = Option Candidate} some (t .listed .is ∙ ap₂ (candidate q) (sym (z .goal-of)) (sym (z .set-of)));
-            costs = rw (z .goal-of, z .set-of) (sym (z .cost-of));
-          }
-        where
-          p : Picks q (d .goal) (d .reasons)
-          p = t .listed .picks
+      p : Picks q (d .goal) (d .reasons)
+      p = t .listed .picks
 
-          is-cost : d .cost ≡ candidateCost q (d .goal) (d .reasons)
-          is-cost = ap (λ (b : Candidate). b .cost) (t .listed .is)
+      is-cost : d .cost ≡ candidateCost q (d .goal) (d .reasons)
+      is-cost = ap (λ (b : Candidate). b .cost) (t .listed .is)
 
-          small : Small (d .cost) (d .goal) (d .reasons)
-          small = rw is-cost (picks-small (d .goal) (d .reasons) p)
+      small : Small (d .cost) (d .goal) (d .reasons)
+      small = rw is-cost (picks-small (d .goal) (d .reasons) p)
 
-          same : best ≡ keyOf (candidateCost q (d .goal) (d .reasons)) (d .goal) (d .reasons)
-          same =
-              omega (
-                arith,
-                f .cheapest ch .least (record { goal = d .goal; set = d .reasons }) p,
-                least .2,
-                is-cost,
-                upto-key d (candidate q (least .0 .goal) (least .0 .set)) small (picks-small (least .0 .goal) (least .0 .set) (least .1))
-                    (t .first (least .0 .goal) (least .0 .set) (least .1)),
-              )
+      same : best ≡ keyOf (candidateCost q (d .goal) (d .reasons)) (d .goal) (d .reasons)
+      same =
+          omega (
+            arith,
+            f .cheapest ch .least (record { goal = d .goal; set = d .reasons }) p,
+            least .2,
+            is-cost,
+            upto-key d (candidate q (least .0 .goal) (least .0 .set)) small (picks-small (least .0 .goal) (least .0 .set) (least .1))
+                (t .first (least .0 .goal) (least .0 .set) (least .1)),
+          )
 
-          z : Decoded best (candidateCost q (d .goal) (d .reasons)) (d .goal) (d .reasons)
-          z = subst (λ (b : ℕ). Decoded b (candidateCost q (d .goal) (d .reasons)) (d .goal) (d .reasons)) (sym same)
-              (decode _ _ _ (picks-small (d .goal) (d .reasons) p))
+      z : Decoded best (candidateCost q (d .goal) (d .reasons)) (d .goal) (d .reasons)
+      z = subst (λ (b : ℕ). Decoded b (candidateCost q (d .goal) (d .reasons)) (d .goal) (d .reasons)) (sym same)
+          (decode _ _ _ (picks-small (d .goal) (d .reasons) p))
 
 -- ---- `learn`
 
@@ -143,40 +120,18 @@ module _ {n : ℕ} {ys ns : List ℕ} {ch : ℕ} {reasons k : LiteralSet} {o : C
 
 -- ---- the answers
 
-pub step-left : (q : Question) → goals q ≡ 0 → stepOf q ≡ nothingLeft
-unfolding stepOf
-step-left q e = go (eqb (goals q) 0) (eq-eqb (goals q) 0 e)
-  where
-    go : (b : Bool) → b ≡ true → elim b [ true ↦ nothingLeft | false ↦ answerFrom q (theStep q) ] ≡ nothingLeft
-    go true d = refl
-    go false d = absurd (false≢true d)
-
-pub step-open : (q : Question) → (goals q ≡ 0 → ⊥) → stepOf q ≡ answerFrom q (theStep q)
-unfolding stepOf
-step-open q e = go (eqb (goals q) 0) (ne-eqb (goals q) 0 e)
-  where
-    go : (b : Bool) → b ≡ false → elim b [ true ↦ nothingLeft | false ↦ answerFrom q (theStep q) ] ≡ answerFrom q (theStep q)
-    go true d = absurd (true≢false d)
-    go false d = refl
-
 module _ {n : ℕ} {ys ns : List ℕ} {ch : ℕ} {table : List (List ℕ)} {c k : LiteralSet} where
-  pub answer-nothing : {y z g : ℕ} → Asked n ys ns ch table c k → y ≡ diff (c .yes) (k .yes) → z ≡ diff (c .no) (k .no) → g ≡ union y z → g ≡ 0
-      → Next.NothingLeft ≡ nextOf (stepOf (maskQuestion n ys ns ch table c k))
+  pub answer-nothing : {g : ℕ} → Asked n ys ns ch table c k → g ≡ openGoals c k → g ≡ 0 → Next.NothingLeft ≡ nextOf (stepOf (maskQuestion n ys ns ch table c k))
   unfolding goals yesGoals noGoals
-  answer-nothing a p q e d =
-      sym (ap nextOf (step-left (maskQuestion n ys ns ch table c k) (sym (e ∙ ap₂ (λ (u : ℕ) (v : ℕ). union u v) p q) ∙ d)))
-
-  pub answer-none : {y z g best : ℕ} → Asked n ys ns ch table c k → y ≡ diff (c .yes) (k .yes) → z ≡ diff (c .no) (k .no) → g ≡ union y z
-      → (g ≡ 0 → ⊥) → LeastFound n ys ns table c k best → best ≡ noKey → Next.NoCandidate ≡ nextOf (stepOf (maskQuestion n ys ns ch table c k))
-  unfolding goals yesGoals noGoals answerFrom
-  answer-none a p q e ne f d =
-      sym (ap nextOf (step-open (maskQuestion n ys ns ch table c k) (λ z. ne (e ∙ ap₂ (λ (u : ℕ) (v : ℕ). union u v) p q ∙ z))
-      ∙ ap (answerFrom (maskQuestion n ys ns ch table c k)) (none-found ch (asked-ready a) f d)))
+  answer-nothing a e d = sym (ap nextOf (step-left (maskQuestion n ys ns ch table c k) (sym e ∙ d)))
 
   -- the candidate that the least key stands for
-  module _ {best : ℕ} (a : Asked n ys ns ch table c k) (f : LeastFound n ys ns table c k best) (e : best ≡ noKey → ⊥) where
+  module _ {best : ℕ} (a : Asked n ys ns ch table c k) (f : LeastFound n ys ns table c k best) where
+    some-goal : 0 < goals (maskQuestion n ys ns ch table c k)
+    some-goal = pos-of-member (goals (maskQuestion n ys ns ch table c k)) _ (f .cheapest ch .from .1 .goal)
+
     picked : IsKeyOfStep (maskQuestion n ys ns ch table c k) best
-    picked = some-found ch (asked-ready a) f e
+    picked = found ch (asked-ready a) f (taken (maskQuestion n ys ns ch table c k) (asked-sound a) some-goal)
 
     pub answer-chosen : Chosen n ys ns ch k best
     answer-chosen =
@@ -199,7 +154,7 @@ module _ {n : ℕ} {ys ns : List ℕ} {ch : ℕ} {table : List (List ℕ)} {c k 
         }
 
     pub answer-step : {r : Next} → r ≡ nextOf (step (stepAt n ys ns ch c k best)) → r ≡ nextOf (stepOf (maskQuestion n ys ns ch table c k))
-    unfolding answerFrom stepFrom candidate goalLiteral reasonsOn reasonsOff newOn newOff yesGoals
+    unfolding stepFrom candidate goalLiteral reasonsOn reasonsOff newOn newOff yesGoals
     answer-step p = p ∙ sym (ap nextOf theirs)
       where
         q : Question
@@ -211,9 +166,7 @@ module _ {n : ℕ} {ys ns : List ℕ} {ch : ℕ} {table : List (List ℕ)} {c k 
 
         theirs : stepOf q ≡ step (stepAt n ys ns ch c k best)
         theirs =
-            step-open q (λ z. omega (arith, z, pos-of-member (goals q) _ (picked .picks .goal)))
-            ∙ ap (answerFrom q) (picked .taken)
-            ∙ ap (λ (d : Candidate). step (stepFrom q d)) same
+            step-open q (λ z. omega (arith, z, some-goal)) ∙ ap (λ (d : Candidate). step (stepFrom q d)) (picked .taken ∙ same)
 
 -- ---- `step_of`
 
@@ -258,4 +211,4 @@ pub ruleset learn-laws = (learn-absurd, learnt)
 
 pub ruleset step-laws = (chosen-reasons, chosen-step)
 
-pub ruleset answer-laws = (asked-ready, answer-nothing, answer-none, answer-chosen, answer-step)
+pub ruleset answer-laws = (asked-goal, answer-nothing, answer-chosen, answer-step)

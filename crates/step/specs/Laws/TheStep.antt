@@ -1,52 +1,58 @@
 -- The step that is answered is the step, for every filling and every candidate. Assumes nothing.
 use mathlib.Core.Path.{_≡_, refl, sym, ap, ap₂, subst, subst₂, _∙_}
 use mathlib.Core.Logic.{by-cases}
-use mathlib.Core.Bool.{Bool, true, false, not, cond, false≢true}
+use mathlib.Core.Bool.{Bool, true, false, not, cond, true≢false, false≢true}
 use mathlib.Core.List.{List}
-use mathlib.Core.Option.{Option, none, some}
 use Prim.Native.Nat.{ℕ, _+_, _-_, _≤_, _<_, max}
 use native.Mathlib.Decide.{ℕ-discrete}
 use native.Mathlib.Omega.{arith}
 use lib.Dec.{eqb}
-use borrow.Author.Tests.{eqb-true, eqb-false}
+use borrow.Author.Tests.{eqb-true, eqb-false, eq-eqb, ne-eqb}
 use Rattle.sets.specs.Sets.{bit, has, union, inter, diff, insert, Within}
-use Rattle.sets.specs.Laws.Bits.{bit-le, bit-zero, bit-union, bit-diff, bit-inter, ext}
+use Rattle.sets.specs.Laws.Bits.{bit-le, bit-zero, bit-union, bit-diff, bit-inter, pos-of-member, ext}
 use Rattle.sets.specs.Laws.Subset.{one-has, zero-has, has-true, has-false, within-refl, within-le}
-use Rattle.sets.specs.Laws.Least.{some-member}
+use Rattle.sets.specs.Laws.Least.{trailing-least}
 use Rattle.literals.specs.Truth.{holds}
 use Rattle.literals.specs.declared.LiteralSet.{LiteralSet}
 use Rattle.sat.specs.Contracts.{digit}
 use Rattle.consequence.specs.Meaning.{yesForced, noForced, ModelOf, NoModelOf}
 use Rattle.consequence.specs.Laws.Forcing.{Exactly, yes-exactly, no-exactly}
-use Rattle.consequence.specs.Laws.Masks.{theory-assigned, assigned-theory, to-theory}
-use Rattle.step.specs.Meaning.{Question, setCost, literalOf, yesGoals, noGoals, goals, goalLiteral, reasonsOn, reasonsOff, againstOn, againstOff, candidateCost, Candidate, candidate, theStep, Step, nothingLeft, noCandidate, step, newOn, newOff, stepFrom, answerFrom, stepOf}
+use Rattle.consequence.specs.Laws.Masks.{theory-assigned, to-theory, of-theory}
+use Rattle.step.specs.Meaning.{Question, setCost, literalOf, yesGoals, noGoals, goals, goalLiteral, reasonsOn, reasonsOff, againstOn, againstOff, candidateCost, Candidate, candidate, allKnown, theStep, Step, nothingLeft, step, newOn, newOff, stepFrom, stepOf}
 use Rattle.step.specs.Contracts.{Picks, Asked, maskQuestion}
 use Rattle.step.specs.Laws.Order.{upto-cost}
 use Rattle.step.specs.IsStep.{Sound, oppositeOn, oppositeOff, Goal, Candidature, Upto, placed, New, Gained, IsStep}
 use Rattle.step.specs.Laws.Explores.{opposite}
-use Rattle.step.specs.Laws.Steps.{step-left}
-use Rattle.step.specs.Laws.Goals.{sign-of, cond-not}
-use Rattle.step.specs.Laws.Candidates.{Sized, Stepped, TheStep, the-step, picks-goal}
+use Rattle.step.specs.Laws.Known.{Forcing, goals-at, is-goal, against-on, against-off, reasons-union, goal-is, candidature-picks, candidature-cost, all-picked}
+use Rattle.step.specs.Laws.Candidates.{Sized, Stepped, the-step, picks-goal}
+
+-- ---- the two answers
+
+pub step-left : (q : Question) → goals q ≡ 0 → stepOf q ≡ nothingLeft
+unfolding stepOf
+step-left q e = go (eqb (goals q) 0) (eq-eqb (goals q) 0 e)
+  where
+    go : (b : Bool) → b ≡ true → elim b [ true ↦ nothingLeft | false ↦ step (stepFrom q (theStep q)) ] ≡ nothingLeft
+    go true d = refl
+    go false d = absurd (false≢true d)
+
+pub step-open : (q : Question) → (goals q ≡ 0 → ⊥) → stepOf q ≡ step (stepFrom q (theStep q))
+unfolding stepOf
+step-open q e = go (eqb (goals q) 0) (ne-eqb (goals q) 0 e)
+  where
+    go : (b : Bool) → b ≡ false → elim b [ true ↦ nothingLeft | false ↦ step (stepFrom q (theStep q)) ] ≡ step (stepFrom q (theStep q))
+    go true d = absurd (true≢false d)
+    go false d = refl
 
 module _ (q : Question) (z : Sound q) where
-  con-apart : (v : ℕ) → bit (q .con-on) v + bit (q .con-off) v ≤ 1
-  con-apart v = omega (arith, z .model .1 .keeps .keeps v, z .model .1 .avoids .avoids v, bit-le (z .model .0) v)
-
-  known-apart : (v : ℕ) → bit (q .known-on) v + bit (q .known-off) v ≤ 1
-  known-apart v = omega (arith, con-apart v, z .known-on .keeps v, z .known-off .keeps v)
-
-  goals-at : (v : ℕ) → bit (goals q) v ≡ max (bit (q .con-on) v - bit (q .known-on) v) (bit (q .con-off) v - bit (q .known-off) v)
-  unfolding goals yesGoals noGoals
-  goals-at v =
-      omega (
-        arith,
-        bit-union (diff (q .con-on) (q .known-on)) (diff (q .con-off) (q .known-off)) v,
-        bit-diff (q .con-on) (q .known-on) v,
-        bit-diff (q .con-off) (q .known-off) v,
-      )
-
-  con-below : (v : ℕ) → bit (union (q .con-on) (q .con-off)) v ≤ bit (q .theory .choices) v
-  con-below v = omega (arith, bit-union (q .con-on) (q .con-off) v, z .on-choices .keeps v, z .off-choices .keeps v)
+  pub sound-forcing : Forcing q
+  sound-forcing =
+      record {
+        known-on = z .known-on;
+        known-off = z .known-off;
+        apart = record { avoids = λ v. omega (arith, z .model .1 .keeps .keeps v, z .model .1 .avoids .avoids v, bit-le (z .model .0) v) };
+        forces = z .forces;
+      }
 
   pub sound-sized : Sized q
   sound-sized =
@@ -56,95 +62,11 @@ module _ (q : Question) (z : Sound q) where
       }
     where
       goal-choice : (v : ℕ) → bit (goals q) v ≤ bit (q .theory .choices) v
-      goal-choice v = omega (arith, goals-at v, z .on-choices .keeps v, z .off-choices .keeps v, bit-le (q .con-on) v, bit-le (q .con-off) v)
+      goal-choice v = omega (arith, goals-at q v, z .on-choices .keeps v, z .off-choices .keeps v, bit-le (q .con-on) v, bit-le (q .con-off) v)
 
       known-choice : (v : ℕ) → bit (union (q .known-on) (q .known-off)) v ≤ bit (q .theory .choices) v
       known-choice v =
           omega (arith, bit-union (q .known-on) (q .known-off) v, z .known-on .keeps v, z .known-off .keeps v, z .on-choices .keeps v, z .off-choices .keeps v)
-
-  signed : (v : ℕ) → bit (goals q) v ≡ 1 → has (noGoals q) v ≡ not (has (yesGoals q) v)
-  unfolding goals yesGoals noGoals
-  signed v e = sign-of (q .con-on) (q .con-off) (q .known-on) (q .known-off) v (con-apart v) e
-
-  -- a goal says what the consequence says
-  goal-is : (v : ℕ) (b : Bool) → Goal q v b → (bit (goals q) v ≡ 1) × (has (yesGoals q) v ≡ b)
-  unfolding goals
-  goal-is v true g = (omega (arith, g, bit-union (yesGoals q) (noGoals q) v, bit-le (noGoals q) v), one-has (yesGoals q) v g)
-  goal-is v false g =
-      let e : bit (goals q) v ≡ 1 = omega (arith, g, bit-union (yesGoals q) (noGoals q) v, bit-le (yesGoals q) v) in
-      (e, flip (has (yesGoals q) v) (sym (signed v e) ∙ one-has (noGoals q) v g))
-    where
-      flip : (b : Bool) → not b ≡ true → b ≡ false
-      flip true d = absurd (false≢true d)
-      flip false d = refl
-
-  is-goal : (v : ℕ) → bit (goals q) v ≡ 1 → (b : Bool) → has (yesGoals q) v ≡ b → Goal q v b
-  unfolding goals
-  is-goal v e true p = has-true (yesGoals q) v p
-  is-goal v e false p = omega (arith, e, has-false (yesGoals q) v p, bit-union (yesGoals q) (noGoals q) v, bit-le (noGoals q) v)
-
-  -- the masks of a set with the opposite of a goal
-  against-on : (s v : ℕ) (b : Bool) → Goal q v b → againstOn q s v ≡ oppositeOn b (reasonsOn q s) v
-  unfolding againstOn
-  against-on s v b g =
-      let w = goal-is v b g in
-      ap (λ (x : Bool). cond x (insert (reasonsOn q s) v) (reasonsOn q s)) (signed v (w .0) ∙ ap not (w .1)) ∙ cond-not b _ _
-
-  against-off : (s v : ℕ) (b : Bool) → Goal q v b → againstOff q s v ≡ oppositeOff b (reasonsOff q s) v
-  unfolding againstOff
-  against-off s v b g = ap (λ (x : Bool). cond x (insert (reasonsOff q s) v) (reasonsOff q s)) (goal-is v b g .1)
-
-  -- the variables of a set of known literals stand for it
-  union-on : (a b : ℕ) → Within a (q .known-on) → Within b (q .known-off) → reasonsOn q (union a b) ≡ a
-  unfolding reasonsOn
-  union-on a b x y =
-      ext _ _ (λ v. omega (arith, bit-inter (union a b) (q .known-on) v, bit-union a b v, x .keeps v, y .keeps v, known-apart v, bit-le a v, bit-le b v))
-
-  union-off : (a b : ℕ) → Within a (q .known-on) → Within b (q .known-off) → reasonsOff q (union a b) ≡ b
-  unfolding reasonsOff
-  union-off a b x y =
-      ext _ _ (λ v. omega (arith, bit-inter (union a b) (q .known-off) v, bit-union a b v, x .keeps v, y .keeps v, known-apart v, bit-le a v, bit-le b v))
-
-  reasons-union : (s : ℕ) → Within s (union (q .known-on) (q .known-off)) → union (reasonsOn q s) (reasonsOff q s) ≡ s
-  unfolding reasonsOn reasonsOff
-  reasons-union s w =
-      ext _ _ (λ v.
-      omega (
-        arith,
-        bit-union (inter s (q .known-on)) (inter s (q .known-off)) v,
-        bit-inter s (q .known-on) v,
-        bit-inter s (q .known-off) v,
-        w .keeps v,
-        bit-union (q .known-on) (q .known-off) v,
-        bit-le s v,
-      ))
-
-  -- every candidate is one of the list
-  module _ (on off v : ℕ) (b : Bool) (k : Candidature q on off v b) where
-    pub candidature-picks : Picks q v (union on off)
-    candidature-picks =
-        record {
-          goal = goal-is v b (k .goal) .0;
-          known = record {
-            keeps = λ u. omega (arith, bit-union on off u, bit-union (q .known-on) (q .known-off) u, k .on-known .keeps u, k .off-known .keeps u);
-          };
-          refuted = rw (
-            against-on (union on off) v b (k .goal),
-            against-off (union on off) v b (k .goal),
-            union-on on off (k .on-known) (k .off-known),
-            union-off on off (k .on-known) (k .off-known),
-          ) (k .contradicts);
-        }
-
-    candidature-cost : candidateCost q v (union on off) ≡ placed q on off v b .cost
-    unfolding candidateCost
-    candidature-cost =
-        rw (
-          against-on (union on off) v b (k .goal),
-          against-off (union on off) v b (k .goal),
-          union-on on off (k .on-known) (k .off-known),
-          union-off on off (k .on-known) (k .off-known),
-        ) refl
 
   -- what is forced
   forced-by : (on off v : ℕ) (b : Bool) → NoModelOf (q .theory) (oppositeOn b on v) (oppositeOff b off v) → (f : ℕ) → ModelOf (q .theory) on off f
@@ -209,7 +131,7 @@ module _ (q : Question) (z : Sound q) where
       p = t .listed .picks
 
       g : Goal q v b
-      g = is-goal v (p .goal) b refl
+      g = is-goal q sound-forcing v (p .goal) b refl
 
       it : Candidature q on off v b
       it =
@@ -217,22 +139,22 @@ module _ (q : Question) (z : Sound q) where
             on-known = inter-known (c .reasons) (q .known-on);
             off-known = inter-known (c .reasons) (q .known-off);
             goal = g;
-            contradicts = rw (← against-on (c .reasons) v b g, ← against-off (c .reasons) v b g) (p .refuted);
+            contradicts = rw (← against-on q sound-forcing (c .reasons) v b g, ← against-off q sound-forcing (c .reasons) v b g) (p .refuted);
           }
 
       costs : c .cost ≡ placed q on off v b .cost
       costs =
           ap (λ (d : Candidate). d .cost) (t .listed .is)
-          ∙ ap₂ (λ (x : ℕ) (y : ℕ). setCost (q .table) (q .theory .variables) x y) (against-on (c .reasons) v b g) (against-off (c .reasons) v b g)
+          ∙ ap₂ (λ (x : ℕ) (y : ℕ). setCost (q .table) (q .theory .variables) x y) (against-on q sound-forcing (c .reasons) v b g) (against-off q sound-forcing (c .reasons) v b g)
 
       first : (a o u : ℕ) (y : Bool) → Candidature q a o u y → Upto (placed q on off v b) (placed q a o u y)
-      first a o u y k = subst₂ Upto mine theirs (t .first u (union a o) (candidature-picks a o u y k))
+      first a o u y k = subst₂ Upto mine theirs (t .first u (union a o) (candidature-picks q sound-forcing a o u y k))
         where
           mine : c ≡ placed q on off v b
-          mine = λ i. record { cost = costs i; goal = v; reasons = sym (reasons-union (c .reasons) (p .known)) i }
+          mine = λ i. record { cost = costs i; goal = v; reasons = sym (reasons-union q sound-forcing (c .reasons) (p .known)) i }
 
           theirs : candidate q u (union a o) ≡ placed q a o u y
-          theirs = λ i. record { cost = candidature-cost a o u y k i; goal = u; reasons = union a o }
+          theirs = λ i. record { cost = candidature-cost q sound-forcing a o u y k i; goal = u; reasons = union a o }
 
       yes-new : New (q .theory) on off 1 (q .known-on) (diff (yesForced (q .theory) on off) (q .known-on))
       yes-new = new-is on off 1 (q .known-on) (yesForced (q .theory) on off) (yes-exactly (q .theory) on off)
@@ -245,13 +167,13 @@ module _ (q : Question) (z : Sound q) where
 
       choice : bit (q .theory .choices) v ≡ 1
       choice =
-          omega (arith, p .goal, goals-at v, z .on-choices .keeps v, z .off-choices .keeps v, bit-le (q .theory .choices) v, bit-le (q .con-on) v, bit-le (q .con-off) v)
+          omega (arith, p .goal, goals-at q v, z .on-choices .keeps v, z .off-choices .keeps v, bit-le (q .theory .choices) v, bit-le (q .con-on) v, bit-le (q .con-off) v)
 
       unknown : bit (q .known-on) v ≡ 0
-      unknown = omega (arith, p .goal, goals-at v, con-apart v, z .known-on .keeps v, z .known-off .keeps v)
+      unknown = omega (arith, p .goal, goals-at q v, sound-forcing .apart .avoids v, z .known-on .keeps v, z .known-off .keeps v)
 
       unknown-off : bit (q .known-off) v ≡ 0
-      unknown-off = omega (arith, p .goal, goals-at v, con-apart v, z .known-on .keeps v, z .known-off .keeps v)
+      unknown-off = omega (arith, p .goal, goals-at q v, sound-forcing .apart .avoids v, z .known-on .keeps v, z .known-off .keeps v)
 
       gains : (y : Bool) → b ≡ y → Gained (stepFrom q c) v y
       gains true e = yes-new .complete v below choice unknown (λ f m. forced-by on off v b (it .contradicts) f m ∙ ap digit e)
@@ -259,68 +181,51 @@ module _ (q : Question) (z : Sound q) where
 
   -- ---- the answer
 
+  -- the candidate that is taken, where a goal is left
+  pub taken : 0 < goals q → Stepped q (theStep q)
+  unfolding allKnown candidate
+  taken h = the-step q sound-sized (all-picked q sound-forcing _ (trailing-least (q .theory .variables) (goals q) h (sound-sized .goals-below) .member))
+
   -- the step that is answered is the step
   pub step-is : (s : Step) → stepOf q ≡ step s → IsStep q s
-  unfolding stepOf answerFrom
-  step-is s e = go (eqb (goals q) 0) (theStep q) (the-step q sound-sized) e
+  unfolding stepOf
+  step-is s e = go (eqb (goals q) 0) refl e
     where
-      go : (b : Bool) (o : Option Candidate) → TheStep q o → elim b [ true ↦ nothingLeft | false ↦ answerFrom q o ] ≡ step s → IsStep q s
-      go true o t d = let n : _≡_ {A = ℕ} 0 1 = cc in absurd (omega arith)
-      go false none t d = let n : _≡_ {A = ℕ} 0 1 = cc in absurd (omega arith)
-      go false (some c) t d = let same : stepFrom q c ≡ s = cc in subst (IsStep q) same (from-stepped c t)
+      go : (b : Bool) → eqb (goals q) 0 ≡ b → elim b [ true ↦ nothingLeft | false ↦ step (stepFrom q (theStep q)) ] ≡ step s → IsStep q s
+      go true d w = let n : _≡_ {A = ℕ} 0 1 = cc in absurd (omega arith)
+      go false d w =
+          let ne : goals q ≡ 0 → ⊥ = eqb-false (goals q) 0 d in
+          let same : stepFrom q (theStep q) ≡ s = cc in
+          subst (IsStep q) same (from-stepped (theStep q) (taken (omega arith)))
 
   -- nothing is left exactly where K is the consequence
   pub left-known : stepOf q ≡ nothingLeft → (q .known-on ≡ q .con-on) × (q .known-off ≡ q .con-off)
-  unfolding stepOf answerFrom
-  left-known e = go (eqb (goals q) 0) refl (theStep q) e
+  unfolding stepOf
+  left-known e = go (eqb (goals q) 0) refl e
     where
       none-open : goals q ≡ 0 → (v : ℕ) → (bit (q .known-on) v ≡ bit (q .con-on) v) × (bit (q .known-off) v ≡ bit (q .con-off) v)
       none-open n v =
           let o : bit (goals q) v ≡ 0 = ap (λ (m : ℕ). bit m v) n ∙ bit-zero v in
-          (omega (arith, goals-at v, z .known-on .keeps v), omega (arith, goals-at v, z .known-off .keeps v))
+          (omega (arith, goals-at q v, z .known-on .keeps v), omega (arith, goals-at q v, z .known-off .keeps v))
 
-      go : (b : Bool) → eqb (goals q) 0 ≡ b → (o : Option Candidate) → elim b [ true ↦ nothingLeft | false ↦ answerFrom q o ] ≡ nothingLeft
+      go : (b : Bool) → eqb (goals q) 0 ≡ b → elim b [ true ↦ nothingLeft | false ↦ step (stepFrom q (theStep q)) ] ≡ nothingLeft
           → (q .known-on ≡ q .con-on) × (q .known-off ≡ q .con-off)
-      go true d o w =
+      go true d w =
           let n : goals q ≡ 0 = eqb-true (goals q) 0 d in
           (ext _ _ (λ v. none-open n v .0), ext _ _ (λ v. none-open n v .1))
-      go false d none w = let n : _≡_ {A = ℕ} 0 1 = cc in absurd (omega arith)
-      go false d (some c) w = let n : _≡_ {A = ℕ} 0 1 = cc in absurd (omega arith)
+      go false d w = let n : _≡_ {A = ℕ} 0 1 = cc in absurd (omega arith)
 
   pub known-left : q .known-on ≡ q .con-on → q .known-off ≡ q .con-off → stepOf q ≡ nothingLeft
   known-left x y =
       step-left q
-      (ext (goals q) 0 (λ v. omega (arith, goals-at v, ap (λ (m : ℕ). bit m v) x, ap (λ (m : ℕ). bit m v) y, bit-zero v)))
+      (ext (goals q) 0 (λ v. omega (arith, goals-at q v, ap (λ (m : ℕ). bit m v) x, ap (λ (m : ℕ). bit m v) y, bit-zero v)))
 
-  -- where K forces each literal of the consequence, there is a step: K itself is a candidate for every goal
-  module _ (forces : (f : ℕ) → ModelOf (q .theory) (q .known-on) (q .known-off) f → ModelOf (q .theory) (q .con-on) (q .con-off) f) where
-    all-known : (v : ℕ) (b : Bool) → Goal q v b → Candidature q (q .known-on) (q .known-off) v b
-    unfolding yesGoals noGoals
-    all-known v b g =
-        record { on-known = within-refl (q .known-on); off-known = within-refl (q .known-off); goal = g; contradicts = record { none = clash b g } }
-      where
-        clash : (y : Bool) → Goal q v y → (f : ℕ) → ModelOf (q .theory) (oppositeOn y (q .known-on) v) (oppositeOff y (q .known-off) v) f → ⊥
-        clash true g f m =
-            let w = assigned-theory (opposite true (q .known-on) (q .known-off) v) m in
-            omega (arith, w .1, g, bit-diff (q .con-on) (q .known-on) v, forces f (w .0) .keeps .keeps v)
-        clash false g f m =
-            let w = assigned-theory (opposite false (q .known-on) (q .known-off) v) m in
-            omega (arith, w .1, g, bit-diff (q .con-off) (q .known-off) v, forces f (w .0) .avoids .avoids v)
-
-    pub some-step : stepOf q ≡ noCandidate → ⊥
-    unfolding stepOf answerFrom
-    some-step e = go (eqb (goals q) 0) refl (theStep q) (the-step q sound-sized) e
-      where
-        picked : (goals q ≡ 0 → ⊥) → (v : ℕ) × Picks q v (union (q .known-on) (q .known-off))
-        picked n =
-            let w = some-member (goals q) (omega arith) in
-            let g : Goal q (w .0) (has (yesGoals q) (w .0)) = is-goal (w .0) (w .1) (has (yesGoals q) (w .0)) refl in
-            (w .0, candidature-picks (q .known-on) (q .known-off) (w .0) (has (yesGoals q) (w .0)) (all-known (w .0) (has (yesGoals q) (w .0)) g))
-
-        go : (b : Bool) → eqb (goals q) 0 ≡ b → (o : Option Candidate) → TheStep q o → elim b [ true ↦ nothingLeft | false ↦ answerFrom q o ] ≡ noCandidate → ⊥
-        go true d o t w = let n : _≡_ {A = ℕ} 0 1 = cc in omega arith
-        go false d none t w = let x = picked (eqb-false (goals q) 0 d) in t (x .0) _ (x .1)
-        go false d (some c) t w = let n : _≡_ {A = ℕ} 0 1 = cc in omega arith
+  -- where a goal is left, the step is there
+  pub some-step : (v : ℕ) (says : Bool) → Goal q v says → (s : Step) × (stepOf q ≡ step s) × IsStep q s
+  some-step v says g =
+      let h : 0 < goals q = pos-of-member (goals q) v (goal-is q sound-forcing v says g .0) in
+      let e : stepOf q ≡ step (stepFrom q (theStep q)) = step-open q (λ d. omega arith) in
+      (stepFrom q (theStep q), e, step-is _ e)
 
 -- what `next_step` requires makes sense
 pub asked-sound : {n ch : ℕ} {ys ns : List ℕ} {table : List (List ℕ)} {c k : LiteralSet} → Asked n ys ns ch table c k → Sound (maskQuestion n ys ns ch table c k)
@@ -332,4 +237,5 @@ asked-sound a =
       known-on = a .known-yes;
       known-off = a .known-no;
       model = (a .model .0, to-theory _ (a .model .1));
+      forces = λ f m. to-theory _ (a .forces f (of-theory _ m));
     }
