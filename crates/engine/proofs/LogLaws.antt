@@ -1,6 +1,6 @@
 -- The log of a problem and of a book: from what the inner functions found to the call's answer, and its contract in each of its cases.
 -- Assumes nothing.
-use mathlib.Core.Path.{_≡_, refl, sym, ap₂, _∙_}
+use mathlib.Core.Path.{_≡_, refl, ap₂, _∙_}
 use mathlib.Core.Bool.{Bool, true, false, not, cond}
 use mathlib.Core.List.{List}
 use Prim.Native.Nat.{ℕ, _≤_, _<_, _^_}
@@ -15,7 +15,7 @@ use Rattle.book.specs.Limits.{maxLog}
 use Rattle.book.specs.Format.{Read, value, refused, OrderBook, readBook}
 use Rattle.book.specs.Answer.{maskedBook, table}
 use Rattle.book.proofs.WellFormed.{WellFormed, well-formed}
-use Rattle.problem.specs.Problem.{Problem, problemOf, given}
+use Rattle.problem.specs.Problem.{problemOf, given}
 use Rattle.problem.specs.Masked.{maskedFrom}
 use Rattle.problem.specs.declared.MaskedProblem.{MaskedProblem}
 use Rattle.problem.proofs.BookLaws.{proper-book}

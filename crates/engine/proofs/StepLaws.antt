@@ -8,7 +8,7 @@ use native.Mathlib.Omega.{arith}
 use borrow.Author.Tests.{not-true, not-false}
 use lib.IntN.{ℤ}
 use lib.Seq.{length-take-le}
-use Rattle.sets.specs.Sets.{subset, Within}
+use Rattle.sets.specs.Sets.{subset}
 use Rattle.sets.specs.Laws.Subset.{subset-within, within-subset}
 use Rattle.literals.specs.declared.LiteralSet.{LiteralSet}
 use Rattle.book.specs.Format.{Read, value, refused, OrderBook, readBook}

@@ -14,10 +14,6 @@ pub sets-append : (l : List ℕ) (i : ℕ) (xs ys : List ℕ) → sets l i (xs +
 sets-append l i [] ys = rw (add-zero i) refl
 sets-append l i (x ∷ xs) ys = sets-append (set l i x) (suc i) xs ys ∙ ap (λ k. sets (sets (set l i x) (suc i) xs) k ys) (omega arith)
 
--- one byte more
-pub sets-snoc : (l : List ℕ) (i : ℕ) (xs : List ℕ) (x : ℕ) → set (sets l i xs) (i + length xs) x ≡ sets l i (xs ++ (x ∷ []))
-sets-snoc l i xs x = sym (sets-append l i xs (x ∷ []))
-
 -- one part after another
 pub put-append : {a b c : List ℕ} {at k r : ℕ} (xs ys : List ℕ) → Put a at xs b k → Put b k ys c r → Put a at (xs ++ ys) c r
 put-append {a} {b} {c} {at} {k} {r} xs ys p q = record {

@@ -143,7 +143,7 @@ module _ (q : Question) where
   unfoldable pub candidates : List Candidate
   candidates = candidatesBelow (q .theory .variables)
 
-  -- All of K with the goal of the lowest variable: one of them, since K with the opposite of a goal contradicts the rules (`all-known`, Theorems).
+  -- All of K with the goal of the lowest variable: one of them, since K with the opposite of a goal contradicts the rules (`known-contradicts`, Theorems).
   unfoldable pub allKnown : Candidate
   allKnown = candidate (trailingZeros (q .theory .variables) (goals q)) (union (q .known-on) (q .known-off))
 

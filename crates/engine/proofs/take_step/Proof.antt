@@ -7,9 +7,6 @@ use Rattle.engine.proofs.StepLaws.{says-step, says-nothing}
 use borrow.Author.Needs.{needs}
 use Rattle.engine.proofs.take_step.Statement.{statement}
 use Rattle.engine.proofs.take_step.Tie as tie
-use Rattle.engine.proofs.take_step.Reads as reads
-use Rattle.engine.proofs.take_step.Lts as lts
-use Rattle.step.proofs.next_step.Reads as next-step-reads
 
 array-share-prefix-yes : tie.Need-array-share-prefix-yes
 array-share-prefix-yes c = search needs

@@ -65,7 +65,7 @@ enum-told : tie.Need-enum-told Inv-loop μ-loop
 enum-told c = search needs
 
 put-ok-requires : tie.Need-put-ok-requires Inv-loop μ-loop
-put-ok-requires c κs = end-room _ (c .before .before .before .before .loop .inv .1)
+put-ok-requires c κs = omega (arith, end-room _ (c .before .before .before .before .loop .inv .1))
 
 same-length : tie.Need-same-length Inv-loop μ-loop
 same-length c = put-length _ (c .before .before .put-ok .ensures) ∙ put-length _ (c .before .before .before .before .before .before .before .loop .inv .1 .put)
@@ -95,14 +95,14 @@ cast-total c = omega (arith, arm c .known-told .given)
 add-total : tie.Need-add-total Inv-loop μ-loop
 add-total c = omega (arith, arm c .known-told .given, turn (arm c) .loop .inv .1 .cheap, step-open _ (turn (arm c) .loop .inv .1) (told (arm c)))
 
-loop-less : tie.Need-loop-less Inv-loop μ-loop
-loop-less c = rw (c .before .union .ensures, c .union2 .ensures) (goals-fewer (turn (arm c) .loop .inv .0) (turn (arm c) .loop .inv .1 .asked) (told (arm c)))
-
 loop-again : tie.Need-loop-again Inv-loop μ-loop
 loop-again c = (
   turn (arm c) .loop .inv .0,
   logging-more _ (turn (arm c) .loop .inv .1) (told (arm c)) (omega (arith, arm c .known-told .given)) (stored (c .before .before .before .before)) (c .before .union .ensures) (c .union2 .ensures),
 )
+
+loop-less : tie.Need-loop-less Inv-loop μ-loop
+loop-less c = rw (c .before .union .ensures, c .union2 .ensures) (goals-fewer (turn (arm c) .loop .inv .0) (turn (arm c) .loop .inv .1 .asked) (told (arm c)))
 
 pub write-spec : {M : Type 1} → statement M
 write-spec =

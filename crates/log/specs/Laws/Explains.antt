@@ -12,7 +12,7 @@ use lib.IntN.{pos, negsuc, negℤ}
 use lib.ListN.{length, length-map}
 use lib.Pow.{pow-mono}
 use Rattle.sets.specs.Sets.{bit, union, diff, count, Within, Apart}
-use Rattle.sets.specs.Laws.Bits.{bit-le, bit-union, bit-diff, member-lt}
+use Rattle.sets.specs.Laws.Bits.{bit-le, bit-diff, member-lt}
 use Rattle.sets.specs.Laws.Count.{zero-of-ones}
 use Rattle.sets.specs.Laws.Subset.{within-le, within-refl, apart-insert, apart-symm}
 use Rattle.literals.specs.Literal.{Literal, variable}

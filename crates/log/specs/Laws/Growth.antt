@@ -3,11 +3,11 @@
 use mathlib.Core.Path.{_≡_, refl, sym, ap, _∙_}
 use mathlib.Core.Bool.{Bool, true, false}
 use mathlib.Core.List.{List}
-use Prim.Native.Nat.{ℕ, _+_, _-_, _^_, _≤_, _<_, max}
+use Prim.Native.Nat.{ℕ, _+_, _-_, _≤_, _<_, max}
 use native.Mathlib.Nat.{max-comm}
 use native.Mathlib.Decide.{ℕ-discrete}
 use native.Mathlib.Omega.{arith}
-use Rattle.sets.specs.Sets.{bit, union, diff, count, Within, Apart}
+use Rattle.sets.specs.Sets.{bit, union, count, Within, Apart}
 use Rattle.sets.specs.Laws.Bits.{bit-le, bit-union, bit-diff, member-lt}
 use Rattle.sets.specs.Laws.Subset.{within-trans}
 use Rattle.sets.specs.Laws.Count.{ones-proper}

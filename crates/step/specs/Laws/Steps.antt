@@ -1,11 +1,11 @@
 -- The least key is the step: the answer in each case. Assumes nothing.
-use mathlib.Core.Path.{_≡_, refl, sym, ap, ap₂, subst, _∙_}
-use mathlib.Core.Bool.{Bool, true, false, true≢false, false≢true}
+use mathlib.Core.Path.{_≡_, sym, ap, ap₂, subst, _∙_}
+use mathlib.Core.Bool.{Bool, true, false, true≢false}
 use mathlib.Core.List.{List}
 use Prim.Native.Nat.{ℕ, _/_, _%_, _≤_, _<_}
 use native.Mathlib.Omega.{arith}
 use Rattle.sets.specs.Sets.{bit, has, union, inter, diff}
-use Rattle.sets.specs.Laws.Bits.{bit-inter, bit-union, union-lt, diff-lt, pos-of-member}
+use Rattle.sets.specs.Laws.Bits.{bit-inter, bit-union, pos-of-member}
 use Rattle.sets.specs.Laws.Subset.{within-trans, within-le}
 use Rattle.literals.specs.Literal.{Literal}
 use Rattle.literals.specs.declared.LiteralSet.{LiteralSet}

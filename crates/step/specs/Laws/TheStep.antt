@@ -1,16 +1,16 @@
 -- The step that is answered is the step, for every filling and every candidate. Assumes nothing.
 use mathlib.Core.Path.{_≡_, refl, sym, ap, ap₂, subst, subst₂, _∙_}
 use mathlib.Core.Logic.{by-cases}
-use mathlib.Core.Bool.{Bool, true, false, not, cond, true≢false, false≢true}
+use mathlib.Core.Bool.{Bool, true, false, not, true≢false, false≢true}
 use mathlib.Core.List.{List}
-use Prim.Native.Nat.{ℕ, _+_, _-_, _≤_, _<_, max}
+use Prim.Native.Nat.{ℕ, _≤_, _<_}
 use native.Mathlib.Decide.{ℕ-discrete}
 use native.Mathlib.Omega.{arith}
 use lib.Dec.{eqb}
 use borrow.Author.Tests.{eqb-true, eqb-false, eq-eqb, ne-eqb}
-use Rattle.sets.specs.Sets.{bit, has, union, inter, diff, insert, Within}
+use Rattle.sets.specs.Sets.{bit, has, union, inter, diff, Within}
 use Rattle.sets.specs.Laws.Bits.{bit-le, bit-zero, bit-union, bit-diff, bit-inter, pos-of-member, ext}
-use Rattle.sets.specs.Laws.Subset.{one-has, zero-has, has-true, has-false, within-refl, within-le}
+use Rattle.sets.specs.Laws.Subset.{one-has, zero-has, within-le}
 use Rattle.sets.specs.Laws.Least.{trailing-least}
 use Rattle.literals.specs.Truth.{holds}
 use Rattle.literals.specs.declared.LiteralSet.{LiteralSet}
@@ -18,7 +18,7 @@ use Rattle.sat.specs.Contracts.{digit}
 use Rattle.consequence.specs.Meaning.{yesForced, noForced, ModelOf, NoModelOf}
 use Rattle.consequence.specs.Laws.Forcing.{Exactly, yes-exactly, no-exactly}
 use Rattle.consequence.specs.Laws.Masks.{theory-assigned, to-theory, of-theory}
-use Rattle.step.specs.Meaning.{Question, setCost, literalOf, yesGoals, noGoals, goals, goalLiteral, reasonsOn, reasonsOff, againstOn, againstOff, candidateCost, Candidate, candidate, allKnown, theStep, Step, nothingLeft, step, newOn, newOff, stepFrom, stepOf}
+use Rattle.step.specs.Meaning.{Question, setCost, literalOf, yesGoals, goals, goalLiteral, reasonsOn, reasonsOff, candidateCost, Candidate, candidate, allKnown, theStep, Step, nothingLeft, step, newOn, newOff, stepFrom, stepOf}
 use Rattle.step.specs.Contracts.{Picks, Asked, maskQuestion}
 use Rattle.step.specs.Laws.Order.{upto-cost}
 use Rattle.step.specs.IsStep.{Sound, oppositeOn, oppositeOff, Goal, Candidature, Upto, placed, New, Gained, IsStep}
