@@ -11,7 +11,7 @@ pub struct Candidate {
     pub from: u64,
 }
 
-// The step, or that there is none. The goal is a set of one literal.
+// The step, or that nothing is left. The goal is a set of one literal.
 pub struct Taken {
     pub found: bool,
     pub goal: Literals,
@@ -136,7 +136,8 @@ fn over_goals(
     best
 }
 
-// The step from a known set: the best candidate, with all that follows from its reasons and is not known.
+// The step from a known set: the best candidate, with all that follows from its reasons and is not known. A step is due
+// wherever a goal is left, whether the reckoning finds a candidate or not.
 pub fn next(
     all: &[u64],
     costs: [u16; 40],
@@ -151,7 +152,7 @@ pub fn next(
     let goal = fillings::within(goals, best.goal);
     let new = fillings::less(follows, known);
     Taken {
-        found: best.found,
+        found: !fillings::is_empty(goals),
         goal,
         reasons,
         new,
