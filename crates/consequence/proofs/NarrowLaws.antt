@@ -1,7 +1,7 @@
 -- The loop of Algorithm 2: what is kept is common to the models found, each further model takes something away, and at the end it is exactly what is forced.
 -- Assumes nothing.
 use mathlib.Core.Path.{_≡_, refl, sym, ap, _∙_}
-use mathlib.Core.Logic.{_⊎_, ⊎-elim}
+use mathlib.Core.Logic.{⊎-elim}
 use mathlib.Core.Bool.{Bool, true, false, _&&_}
 use mathlib.Core.List.{List, [], _∷_, _++_}
 use Prim.Native.Nat.{ℕ, _+_, _^_, _≤_, _<_}
@@ -12,7 +12,7 @@ use lib.ListN.{length}
 use Rattle.sets.specs.Sets.{bit, inter, diff, count, Within}
 use Rattle.sets.specs.Laws.Bits.{bit-le, bit-inter, bit-diff}
 use Rattle.sets.specs.Laws.Count.{ones-diff-inter, ones-within, ones-proper}
-use Rattle.sets.specs.Laws.Subset.{within-le}
+use Rattle.sets.specs.Laws.Subset.{within-le, inter-in}
 use Rattle.literals.specs.Truth.{obeysMasks}
 use Rattle.literals.specs.Laws.{obeys-yes, obeys-no, obeys-some}
 use Rattle.literals.specs.declared.LiteralSet.{LiteralSet}
@@ -105,7 +105,7 @@ module _ {n : ℕ} {ys ns : List ℕ} {ch on off first : ℕ} (c : Choosing n ys
   less kept m e = let w = obeys-some m (kept .no) (kept .yes) e in ⊎-elim (λ t. no-less (w .0) (t .0) (t .1)) (λ t. yes-less (w .0) (t .0) (t .1)) (w .1 .truly)
     where
       yes-within : Within (inter m (kept .yes)) (kept .yes)
-      yes-within = record { keeps = λ v. omega (arith, bit-inter m (kept .yes) v) }
+      yes-within = inter-in m (kept .yes)
 
       no-within : Within (diff (kept .no) m) (kept .no)
       no-within = record { keeps = λ v. omega (arith, bit-diff (kept .no) m v) }

@@ -158,11 +158,7 @@ module _ {p : Problem} (w : ProperProblem p) (some : hasModel p ≡ true) where
   unfolding theoryOf
   sound-between known b =
       facts.between-sound (w .choices-below) (record { yes-forced = yes-consequence p (w .facts-proper); no-forced = no-consequence p (w .facts-proper) })
-      (flip _ (sym (has-contradicts p (w .facts-proper)) ∙ some)) (p .costs) (lies _ _ _ b)
-    where
-      flip : (x : Bool) → not x ≡ true → x ≡ false
-      flip true e = absurd (false≢true e)
-      flip false e = refl
+      (not-true _ (sym (has-contradicts p (w .facts-proper)) ∙ some)) (p .costs) (lies _ _ _ b)
 
 is-next : (s : List ℕ) (known : LiteralSet) (m : Read OrderBook) → readBook s ≡ m → (r : StepAnswer) → r ≡ stepAnswer (known .yes) (known .no) m → IsNext m known r
 unfolding stepAnswer stepFor withModel stepSays stepOfParts

@@ -1,5 +1,5 @@
 -- `log::put_list` meets its contract. Assumes nothing.
-use mathlib.Core.Path.{_≡_, _∙_}
+use mathlib.Core.Path.{_≡_, ap, _∙_}
 use mathlib.Core.List.{[], _∷_}
 use Prim.Native.Nat.{_+_, _<_, _≤_, _^_}
 use native.Mathlib.Omega.{arith}
@@ -26,9 +26,12 @@ whole c = c .before .before .union .ensures
 below : (c : tie.After-count Inv-loop μ-loop) → union (c .before .before .before .before .args .set .yes) (c .before .before .before .before .args .set .no) < 2 ^ width
 below c = rw (whole c) at (c .before .before .union .ok)
 
+counted : (c : tie.After-count Inv-loop μ-loop) → c .count .result ≡ count (union (c .before .before .before .before .args .set .yes) (c .before .before .before .before .args .set .no))
+counted c = c .count .ensures .counts ∙ ap (λ m. count m) (whole c)
+
 -- their number is written, and there is room for them
 number : (c : tie.After-put-byte Inv-loop μ-loop) → Put (now (c .before .before .before .before .before .args .out)) (c .before .before .before .before .before .args .at) (count (union (c .before .before .before .before .before .args .set .yes) (c .before .before .before .before .before .args .set .no)) ∷ []) (c .put-byte .last .0) (c .put-byte .result)
-number c = rw (c .before .count .ensures .counts, whole (c .before)) at (c .put-byte .ensures)
+number c = rw (counted (c .before)) at (c .put-byte .ensures)
 
 fits : (c : tie.After-put-byte Inv-loop μ-loop) → c .put-byte .result + length (members (union (c .before .before .before .before .before .args .set .yes) (c .before .before .before .before .before .args .set .no))) ≤ length (c .put-byte .last .0)
 fits c = members-room _ _ _ _ (below (c .before)) (c .before .before .before .before .before .pre) (number c)

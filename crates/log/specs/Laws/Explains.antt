@@ -1,12 +1,13 @@
 -- Demand 3 of the log that the meaning gives, for every proper problem with a model.
 -- Assumes nothing.
 use mathlib.Core.Path.{_≡_, refl, sym, _∙_}
-use mathlib.Core.Bool.{Bool, true, false, not, false≢true}
+use mathlib.Core.Bool.{Bool, true, false, not}
 use mathlib.Core.List.{List, [], _∷_, _++_, map}
 use Prim.Native.Nat.{ℕ, zero, suc, _+_, _-_, _*_, _^_, _≤_, _<_}
 use native.Mathlib.Nat.{le-trans}
 use native.Mathlib.Decide.{ℕ-discrete}
 use native.Mathlib.Omega.{arith}
+use borrow.Author.Tests.{not-true}
 use lib.Count.{ones-le}
 use lib.IntN.{pos, negsuc, negℤ}
 use lib.ListN.{length, length-map}
@@ -59,11 +60,7 @@ module _ {p : Problem} (w : ProperProblem p) (some : hasModel p ≡ true) where
   forced = record { yes-forced = yes-consequence p (w .facts-proper); no-forced = no-consequence p (w .facts-proper) }
 
   consistent : contradicts (theoryOf p) (given p .yes) (given p .no) ≡ false
-  consistent = flip _ (sym (has-contradicts p (w .facts-proper)) ∙ some)
-    where
-      flip : (b : Bool) → not b ≡ true → b ≡ false
-      flip true e = absurd (false≢true e)
-      flip false e = refl
+  consistent = not-true _ (sym (has-contradicts p (w .facts-proper)) ∙ some)
 
   demand : Demand2 p (consequenceOf p)
   demand = consequence-demand p (w .choices-below)

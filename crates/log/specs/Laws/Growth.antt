@@ -9,7 +9,7 @@ use native.Mathlib.Decide.{ℕ-discrete}
 use native.Mathlib.Omega.{arith}
 use Rattle.sets.specs.Sets.{bit, union, count, Within, Apart}
 use Rattle.sets.specs.Laws.Bits.{bit-le, bit-union, bit-diff, member-lt}
-use Rattle.sets.specs.Laws.Subset.{within-trans}
+use Rattle.sets.specs.Laws.Subset.{within-trans, in-union}
 use Rattle.sets.specs.Laws.Count.{ones-proper}
 use Rattle.literals.specs.declared.LiteralSet.{LiteralSet}
 use Rattle.consequence.specs.Meaning.{Theory, ModelOf}
@@ -68,9 +68,6 @@ module _ {t : Theory} {table : List (List ℕ)} {c facts : LiteralSet} (fc : For
   new-no-within = new-within 0 _ _ _ (is .new-no) (no-exact (a .choices-below) fc)
 
   -- what is known next
-  in-union : (x y : ℕ) → Within x (union x y)
-  in-union x y = record { keeps = λ v. omega (arith, bit-union x y v) }
-
   more : LiteralSet
   more = record { yes = union (known .yes) (s .new-on); no = union (known .no) (s .new-off) }
 

@@ -8,7 +8,7 @@ use Prim.Native.Nat.{ℕ, zero, suc, _+_, _-_, _*_, _^_, _≤_, _<_, max}
 use native.Mathlib.Nat.{add-mul, mul-le-mul-right}
 use native.Mathlib.Decide.{ℕ-discrete}
 use native.Mathlib.Omega.{arith}
-use borrow.Author.Tests.{lt-ltb}
+use borrow.Author.Tests.{lt-ltb, not-true}
 use lib.IntN.{pos, negsuc, negℤ}
 use lib.ListN.{length, length-map}
 use Rattle.sets.specs.Sets.{bit, has, single, union, insert, count, members, RisingFrom, Within, Apart}
@@ -91,11 +91,7 @@ holds-pos f v e = has-true f v e
 
 pub holds-neg : (f v : ℕ) → holds f (negsuc v) ≡ true → bit f v ≡ 0
 unfolding holds
-holds-neg f v e = has-false f v (flip (has f v) e)
-  where
-    flip : (a : Bool) → not a ≡ true → a ≡ false
-    flip true e = absurd (false≢true e)
-    flip false e = refl
+holds-neg f v e = has-false f v (not-true (has f v) e)
 
 pub pos-holds : (f v : ℕ) → bit f v ≡ 1 → holds f (pos (suc v)) ≡ true
 unfolding holds

@@ -7,8 +7,8 @@ use native.Mathlib.Decide.{ℕ-discrete}
 use native.Mathlib.Omega.{arith}
 use borrow.Author.Tests.{eqb-true, eqb-false, eq-eqb, ne-eqb}
 use lib.Bits.{and-le-r}
-use Rattle.sets.specs.Sets.{bit, has, inter, diff, insert, subset, disjoint, Within, Apart}
-use Rattle.sets.specs.Laws.Bits.{bit-le, bit-zero, bit-inter, bit-diff, bit-insert-same, bit-insert-other, ext}
+use Rattle.sets.specs.Sets.{bit, has, union, inter, diff, insert, subset, disjoint, Within, Apart}
+use Rattle.sets.specs.Laws.Bits.{bit-le, bit-zero, bit-union, bit-inter, bit-diff, bit-insert-same, bit-insert-other, ext}
 use Rattle.sets.specs.Laws.Least.{some-member}
 
 -- ---- membership
@@ -61,6 +61,12 @@ within-trans a b c p q = record { keeps = λ v. omega (arith, p .keeps v, q .kee
 
 pub within-antisymm : (a b : ℕ) → Within a b → Within b a → a ≡ b
 within-antisymm a b p q = ext a b (λ v. omega (arith, p .keeps v, q .keeps v))
+
+pub inter-in : (a b : ℕ) → Within (inter a b) b
+inter-in a b = record { keeps = λ v. omega (arith, bit-inter a b v) }
+
+pub in-union : (a b : ℕ) → Within a (union a b)
+in-union a b = record { keeps = λ v. omega (arith, bit-union a b v) }
 
 pub inter-within : (a b : ℕ) → Within a b → inter a b ≡ a
 inter-within a b w = ext (inter a b) a (λ v. omega (arith, bit-inter a b v, w .keeps v))

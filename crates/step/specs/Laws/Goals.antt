@@ -3,7 +3,7 @@ use mathlib.Core.Path.{_≡_, refl, sym, ap, ap₂, subst, _∙_}
 use mathlib.Core.Logic.{_⊎_, inl, inr, by-cases}
 use mathlib.Core.Bool.{Bool, true, false, not, cond}
 use mathlib.Core.List.{List}
-use Prim.Native.Nat.{ℕ, _+_, _-_, _*_, _^_, _≤_, _<_, max}
+use Prim.Native.Nat.{ℕ, _+_, _*_, _^_, _≤_, _<_}
 use native.Mathlib.Decide.{ℕ-discrete, decLt}
 use native.Mathlib.Omega.{arith}
 use lib.ListN.{getD, List·getD-eq-default}
@@ -19,7 +19,7 @@ use Rattle.step.specs.Meaning.{Question, setCost, literalOf, yesGoals, n
 use Rattle.step.specs.Cheapest.{Least, InInterval, least-minimum, least-none, least-both, least-same, remove-within, remove-less}
 use Rattle.step.specs.Contracts.{weightOf, Weighed, total, sumOf, keyOf, Small, aimOn, aimOff, Refutes, keyAt, Sought, Exploring, Explored, maskQuestion, aimAt, whole, openGoals, Ready, ReadyWithGoal, Picks, GoalAndSet, keyOfPair, LeastUnder, LeastFound, Trying, Searching}
 use Rattle.step.specs.Laws.Explores.{aim-posed, known-small}
-use Rattle.step.specs.Laws.Known.{cond-not, sign-of, Forcing, all-picked}
+use Rattle.step.specs.Laws.Known.{cond-not, open-at, sign-of, Forcing, all-picked}
 use Rattle.step.specs.declared.Aim.{Aim}
 use Rattle.step.specs.declared.Part.{Part}
 use Rattle.step.specs.Laws.Costs.{one-cost, set-bound, total-zero, total-bound, total-all, cost-with-yes, cost-with-no}
@@ -50,16 +50,13 @@ pub record Open (n : ℕ) (c k : LiteralSet) (v : ℕ) : Type 0 where
   pub signed : has (diff (c .no) (k .no)) v ≡ not (has (diff (c .yes) (k .yes)) v)
   pub says : has (c .yes) v ≡ has (diff (c .yes) (k .yes)) v
 
-goal-at : (c k : LiteralSet) (v : ℕ) → bit (openGoals c k) v ≡ max (bit (c .yes) v - bit (k .yes) v) (bit (c .no) v - bit (k .no) v)
-goal-at c k v = omega (arith, bit-union (diff (c .yes) (k .yes)) (diff (c .no) (k .no)) v, bit-diff (c .yes) (k .yes) v, bit-diff (c .no) (k .no) v)
-
 module _ {n : ℕ} {ys ns : List ℕ} {table : List (List ℕ)} {c k : LiteralSet} (x : Ready n ys ns table c k) where
   pub goal-open : (v : ℕ) → bit (openGoals c k) v ≡ 1 → Open n c k v
   goal-open v e =
       record {
         isGoal = e;
-        not-on = omega (arith, goal-at c k v, x .known-yes .keeps v, x .known-no .keeps v, x .posed .apart .avoids v, bit-le (c .yes) v, bit-le (c .no) v);
-        not-off = omega (arith, goal-at c k v, x .known-yes .keeps v, x .known-no .keeps v, x .posed .apart .avoids v, bit-le (c .yes) v, bit-le (c .no) v);
+        not-on = omega (arith, open-at (c .yes) (c .no) (k .yes) (k .no) v, x .known-yes .keeps v, x .known-no .keeps v, x .posed .apart .avoids v, bit-le (c .yes) v, bit-le (c .no) v);
+        not-off = omega (arith, open-at (c .yes) (c .no) (k .yes) (k .no) v, x .known-yes .keeps v, x .known-no .keeps v, x .posed .apart .avoids v, bit-le (c .yes) v, bit-le (c .no) v);
         below = member-lt n (union (c .yes) (c .no)) v in-both (union-lt n (c .yes) (c .no) (x .posed .on-below) (x .posed .off-below));
         row = member-lt maxChoices (union (c .yes) (c .no)) v in-both (x .rows);
         signed = sign-of (c .yes) (c .no) (k .yes) (k .no) v (x .posed .apart .avoids v) e;
@@ -67,14 +64,14 @@ module _ {n : ℕ} {ys ns : List ℕ} {table : List (List ℕ)} {c k : LiteralSe
       }
     where
       unknown : bit (diff (c .yes) (k .yes)) v ≡ bit (c .yes) v
-      unknown = omega (arith, goal-at c k v, bit-diff (c .yes) (k .yes) v, x .known-yes .keeps v, x .known-no .keeps v, x .posed .apart .avoids v, bit-le (c .yes) v, bit-le (c .no) v)
+      unknown = omega (arith, open-at (c .yes) (c .no) (k .yes) (k .no) v, bit-diff (c .yes) (k .yes) v, x .known-yes .keeps v, x .known-no .keeps v, x .posed .apart .avoids v, bit-le (c .yes) v, bit-le (c .no) v)
 
       same : (b : Bool) → has (diff (c .yes) (k .yes)) v ≡ b → has (c .yes) v ≡ b
       same true p = one-has (c .yes) v (sym unknown ∙ has-true (diff (c .yes) (k .yes)) v p)
       same false p = zero-has (c .yes) v (sym unknown ∙ has-false (diff (c .yes) (k .yes)) v p)
 
       in-both : bit (union (c .yes) (c .no)) v ≡ 1
-      in-both = omega (arith, goal-at c k v, bit-union (c .yes) (c .no) v, bit-le (c .yes) v, bit-le (c .no) v)
+      in-both = omega (arith, open-at (c .yes) (c .no) (k .yes) (k .no) v, bit-union (c .yes) (c .no) v, bit-le (c .yes) v, bit-le (c .no) v)
 
   pub known-posed : Posed n ys ns (k .yes) (k .no)
   known-posed =

@@ -1,9 +1,10 @@
 -- What is known: a set of it as two masks and by its variables, and that all of it with the opposite of a goal contradicts the rules, so that it is
 -- a candidate for each goal. Assumes nothing.
 use mathlib.Core.Path.{_≡_, refl, sym, ap, _∙_}
-use mathlib.Core.Bool.{Bool, true, false, not, cond, false≢true}
+use mathlib.Core.Bool.{Bool, true, false, not, cond}
 use Prim.Native.Nat.{ℕ, _+_, _-_, _≤_, max}
 use native.Mathlib.Omega.{arith}
+use borrow.Author.Tests.{not-true}
 use Rattle.sets.specs.Sets.{bit, has, union, inter, diff, insert, Within, Apart}
 use Rattle.sets.specs.Laws.Bits.{bit-le, bit-union, bit-diff, bit-inter, ext}
 use Rattle.sets.specs.Laws.Subset.{one-has, zero-has, has-true, has-false, within-refl}
@@ -17,6 +18,10 @@ use Rattle.step.specs.Laws.Explores.{opposite}
 pub cond-not : (a : Bool) (x y : ℕ) → cond (not a) x y ≡ cond a y x
 cond-not true x y = refl
 cond-not false x y = refl
+
+-- what is wanted and not known, by its digits
+pub open-at : (on off a b v : ℕ) → bit (union (diff on a) (diff off b)) v ≡ max (bit on v - bit a v) (bit off v - bit b v)
+open-at on off a b v = omega (arith, bit-union (diff on a) (diff off b) v, bit-diff on a v, bit-diff off b v)
 
 -- where the consequence says yes or no, a goal does
 pub sign-of : (on off a b v : ℕ) → bit on v + bit off v ≤ 1 → bit (union (diff on a) (diff off b)) v ≡ 1 → has (diff off b) v ≡ not (has (diff on a) v)
@@ -32,13 +37,7 @@ module _ (q : Question) where
   -- a goal is a literal of the consequence that is not known
   pub goals-at : (v : ℕ) → bit (goals q) v ≡ max (bit (q .con-on) v - bit (q .known-on) v) (bit (q .con-off) v - bit (q .known-off) v)
   unfolding goals yesGoals noGoals
-  goals-at v =
-      omega (
-        arith,
-        bit-union (diff (q .con-on) (q .known-on)) (diff (q .con-off) (q .known-off)) v,
-        bit-diff (q .con-on) (q .known-on) v,
-        bit-diff (q .con-off) (q .known-off) v,
-      )
+  goals-at v = open-at (q .con-on) (q .con-off) (q .known-on) (q .known-off) v
 
 -- K lies within the consequence, which does not say both of a variable, and every filling that obeys the rules and makes K true makes it true.
 pub record Forcing (q : Question) : Type 0 where
@@ -61,11 +60,7 @@ module _ (q : Question) (z : Forcing q) where
   goal-is v true g = (omega (arith, g, bit-union (yesGoals q) (noGoals q) v, bit-le (noGoals q) v), one-has (yesGoals q) v g)
   goal-is v false g =
       let e : bit (goals q) v ≡ 1 = omega (arith, g, bit-union (yesGoals q) (noGoals q) v, bit-le (yesGoals q) v) in
-      (e, flip (has (yesGoals q) v) (sym (signed v e) ∙ one-has (noGoals q) v g))
-    where
-      flip : (b : Bool) → not b ≡ true → b ≡ false
-      flip true d = absurd (false≢true d)
-      flip false d = refl
+      (e, not-true (has (yesGoals q) v) (sym (signed v e) ∙ one-has (noGoals q) v g))
 
   pub is-goal : (v : ℕ) → bit (goals q) v ≡ 1 → (b : Bool) → has (yesGoals q) v ≡ b → Goal q v b
   unfolding goals

@@ -5,20 +5,21 @@ use mathlib.Core.List.{List}
 use Prim.Native.Nat.{ℕ, _/_, _%_, _≤_, _<_}
 use native.Mathlib.Omega.{arith}
 use Rattle.sets.specs.Sets.{bit, has, union, inter, diff}
-use Rattle.sets.specs.Laws.Bits.{bit-inter, bit-union, pos-of-member}
-use Rattle.sets.specs.Laws.Subset.{within-trans, within-le}
+use Rattle.sets.specs.Laws.Bits.{bit-union, pos-of-member}
+use Rattle.sets.specs.Laws.Subset.{within-le, inter-in}
 use Rattle.literals.specs.Literal.{Literal}
 use Rattle.literals.specs.declared.LiteralSet.{LiteralSet}
 use Rattle.consequence.specs.Meaning.{contradicts, yesForced, noForced}
 use Rattle.consequence.specs.Contracts.{maskTheory, Concluded}
 use Rattle.consequence.specs.Laws.Forcing.{model-contradicts}
-use Rattle.consequence.specs.Laws.Masks.{to-theory}
+use Rattle.consequence.specs.Laws.Masks.{to-theory, of-theory}
 use Rattle.consequence.specs.declared.Consequence.{Consequence}
 use Rattle.consequence.specs.declared.Consequence.the-variants.{NoModel as Contradiction, Forced}
 use Rattle.step.specs.Meaning.{Question, literalOf, yesGoals, noGoals, goals, goalLiteral, reasonsOn, reasonsOff, candidateCost, Candidate, candidate, theStep, step, newOn, newOff, stepFrom, stepOf}
 use Rattle.step.specs.Contracts.{setRoom, goalRoom, keyOf, Small, maskQuestion, openGoals, Ready, ReadyWithGoal, Picks, GoalAndSet, keyOfPair, LeastFound, Reasoned, Learnt, Asked, Chosen, stepAt, nextOf}
 use Rattle.step.specs.Laws.Order.{upto-key, Decoded, decode}
 use Rattle.step.specs.Laws.Explores.{reasons-posed}
+use Rattle.step.specs.Laws.Given.{model-fewer}
 use Rattle.step.specs.Laws.Candidates.{Stepped}
 use Rattle.step.specs.Laws.Goals.{goal-open, known-posed, against-small}
 use Rattle.step.specs.Laws.TheStep.{taken, step-left, step-open, asked-sound}
@@ -140,15 +141,7 @@ module _ {n : ℕ} {ys ns : List ℕ} {ch : ℕ} {table : List (List ℕ)} {c k 
             posed = known-posed (asked-ready a);
             short = a .short;
             choices-below = a .choices-below;
-            model = (
-              a .model .0,
-              record {
-                below = a .model .1 .below;
-                keeps = within-trans (k .yes) (c .yes) (a .model .0) (a .known-yes) (a .model .1 .keeps);
-                avoids = record { avoids = λ v. omega (arith, a .known-no .keeps v, a .model .1 .avoids .avoids v) };
-                obeyed = a .model .1 .obeyed;
-              },
-            );
+            model = (a .model .0, of-theory ch (model-fewer (a .known-yes) (a .known-no) (a .model .0) (to-theory ch (a .model .1))));
           };
           cheap = omega (arith, picked .costs, picks-small ch (asked-ready a) _ _ (picked .picks) .cost-small);
         }
@@ -181,12 +174,7 @@ module _ {n : ℕ} {ys ns : List ℕ} {ch best : ℕ} {k : LiteralSet} (x : Chos
         choices-below = x .known .choices-below;
         model = (
           x .known .model .0,
-          record {
-            below = x .known .model .1 .below;
-            keeps = record { keeps = λ v. omega (arith, bit-inter s (k .yes) v, x .known .model .1 .keeps .keeps v) };
-            avoids = record { avoids = λ v. omega (arith, bit-inter t (k .no) v, x .known .model .1 .avoids .avoids v) };
-            obeyed = x .known .model .1 .obeyed;
-          },
+          of-theory ch (model-fewer (inter-in s (k .yes)) (inter-in t (k .no)) (x .known .model .0) (to-theory ch (x .known .model .1))),
         );
       })
 

@@ -8,9 +8,9 @@ use native.Mathlib.Decide.{ℕ-discrete}
 use native.Mathlib.Omega.{arith}
 use lib.Dec.{eqb}
 use borrow.Author.Tests.{eqb-true, eqb-false, eq-eqb, ne-eqb}
-use Rattle.sets.specs.Sets.{bit, has, union, inter, diff, Within}
-use Rattle.sets.specs.Laws.Bits.{bit-le, bit-zero, bit-union, bit-diff, bit-inter, pos-of-member, ext}
-use Rattle.sets.specs.Laws.Subset.{one-has, zero-has, within-le}
+use Rattle.sets.specs.Sets.{bit, has, union, diff}
+use Rattle.sets.specs.Laws.Bits.{bit-le, bit-zero, bit-union, bit-diff, pos-of-member, ext}
+use Rattle.sets.specs.Laws.Subset.{one-has, zero-has, within-le, inter-in}
 use Rattle.sets.specs.Laws.Least.{trailing-least}
 use Rattle.literals.specs.Truth.{holds}
 use Rattle.literals.specs.declared.LiteralSet.{LiteralSet}
@@ -95,9 +95,6 @@ module _ (q : Question) (z : Sound q) where
         complete = λ v h c o a. omega (arith, bit-diff m known v, x .complete v h c a);
       }
 
-  inter-known : (s m : ℕ) → Within (inter s m) m
-  inter-known s m = record { keeps = λ v. omega (arith, bit-inter s m v) }
-
   from-stepped : (c : Candidate) → Stepped q c → IsStep q (stepFrom q c)
   unfolding stepFrom goalLiteral newOn newOff reasonsOn reasonsOff candidate candidateCost
   from-stepped c t =
@@ -136,8 +133,8 @@ module _ (q : Question) (z : Sound q) where
       it : Candidature q on off v b
       it =
           record {
-            on-known = inter-known (c .reasons) (q .known-on);
-            off-known = inter-known (c .reasons) (q .known-off);
+            on-known = inter-in (c .reasons) (q .known-on);
+            off-known = inter-in (c .reasons) (q .known-off);
             goal = g;
             contradicts = rw (← against-on q sound-forcing (c .reasons) v b g, ← against-off q sound-forcing (c .reasons) v b g) (p .refuted);
           }
