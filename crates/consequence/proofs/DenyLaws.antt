@@ -1,5 +1,4 @@
--- One rule more at the end of the rules: the search is posed again, and what it finds.
--- Assumes nothing.
+-- One rule more at the end of the rules: the search is posed again. Assumes nothing.
 use mathlib.Core.Path.{_≡_, refl}
 use mathlib.Core.List.{List, [], _∷_, _++_}
 use Prim.Native.Nat.{ℕ, _+_, _^_, _<_}
@@ -7,11 +6,7 @@ use native.Mathlib.Decide.{decLt}
 use native.Mathlib.Omega.{arith}
 use lib.ListN.{length, getD, length-append, List·getD-append}
 use lib.Seq.{getD-at}
-use Rattle.literals.specs.declared.LiteralSet.{LiteralSet}
-use Rattle.sat.specs.Contracts.{Posed, MasksBelow, Searched}
-use Rattle.sat.specs.declared.SearchResult.{SearchResult}
-use Rattle.sat.specs.declared.SearchResult.the-variants.{Found, Nothing}
-use Rattle.consequence.specs.Contracts.{Denied}
+use Rattle.sat.specs.Contracts.{Posed, MasksBelow}
 
 masks-snoc : (n : ℕ) (ms : List ℕ) (m : ℕ) → MasksBelow n ms → m < 2 ^ n → MasksBelow n (ms ++ (m ∷ []))
 masks-snoc n ms m a h = record { below = λ i l. go i l (decLt i (length ms)) }
@@ -32,7 +27,3 @@ posed-more {n} {ys} {ns} y m p hy hm = record {
   off-below = p .off-below;
   apart = p .apart;
 }
-
-pub denied : (n : ℕ) (ys ns : List ℕ) (on off prefer : ℕ) (kept : LiteralSet) (r : SearchResult) → Searched n (ys ++ (kept .no ∷ [])) (ns ++ (kept .yes ∷ [])) on off prefer r → Denied n ys ns on off kept r
-denied n ys ns on off prefer kept (Found m) s = record { said = s .found .model }
-denied n ys ns on off prefer kept Nothing s = record { said = s .found }

@@ -122,7 +122,7 @@ module _ {n : ℕ} {ys ns : List ℕ} {ch on off first : ℕ} (c : Choosing n ys
 
   module _ {kept : LiteralSet} {r : SearchResult} {m : ℕ} (d : Denied n ys ns on off kept r) (found : r ≡ Found m) where
     denies : Model n ys ns on off m × (obeysMasks m (kept .no) (kept .yes) ≡ true)
-    denies = fewer-rules (c .posed) (kept .no) (kept .yes) m ((rw found at d) .said)
+    denies = fewer-rules (c .posed) (kept .no) (kept .yes) m ((rw found at d) .searched .found)
 
     pub kept-less : {y k : ℕ} → y ≡ inter m (kept .yes) → k ≡ diff (kept .no) m → count y + count k < count (kept .yes) + count (kept .no)
     kept-less e f = rw (e, f) (less kept m (denies .1))
@@ -142,7 +142,7 @@ module _ {n : ℕ} {ys ns : List ℕ} {ch on off first : ℕ} (c : Choosing n ys
   kept-all {kept} {r} w d e = record { yes-forced = exactly-yes _ on off (kept .yes) yes-exact; no-forced = exactly-no _ on off (kept .no) no-exact }
     where
       none : NoModel n (ys ++ (kept .no ∷ [])) (ns ++ (kept .yes ∷ [])) on off
-      none = (rw e at d) .said
+      none = (rw e at d) .searched .found
 
       yes-each : (v : ℕ) → bit (kept .yes) v ≡ 1 → (f : ℕ) → Model n ys ns on off f → bit f v ≡ 1
       yes-each v b f m = by (ℕ-discrete (bit f v) 1)

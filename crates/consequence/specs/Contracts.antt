@@ -6,11 +6,10 @@ use Prim.Native.Nat.{ℕ, _+_, _^_, _≤_, _<_}
 use lib.ListN.{length}
 use Rattle.sets.specs.Sets.{inter, diff, count}
 use Rattle.literals.specs.declared.LiteralSet.{LiteralSet}
-use Rattle.sat.specs.Meaning.{obeysAll, Model, NoModel}
+use Rattle.sat.specs.Meaning.{obeysAll, Model}
 use Rattle.problem.specs.Limits.{mostRules}
-use Rattle.sat.specs.Contracts.{Posed}
+use Rattle.sat.specs.Contracts.{Posed, Searched}
 use Rattle.sat.specs.declared.SearchResult.{SearchResult}
-use Rattle.sat.specs.declared.SearchResult.the-variants.{Found, Nothing}
 use Rattle.consequence.specs.Meaning.{Theory, contradicts, yesForced, noForced}
 use Rattle.consequence.specs.declared.Consequence.{Consequence}
 use Rattle.consequence.specs.declared.Consequence.the-variants.{NoModel as Contradiction, Forced}
@@ -53,12 +52,9 @@ pub record Narrowing (n : ℕ) (ys ns : List ℕ) (ch on off : ℕ) (kept : Lite
 
 -- ---- one model that denies a kept literal, or none
 
-abbrev pub Denies : ℕ → List ℕ → List ℕ → ℕ → ℕ → LiteralSet → SearchResult → Type 0
-Denies n ys ns on off kept (Found m) = Model n (ys ++ (kept .no ∷ [])) (ns ++ (kept .yes ∷ [])) on off m
-Denies n ys ns on off kept Nothing = NoModel n (ys ++ (kept .no ∷ [])) (ns ++ (kept .yes ∷ [])) on off
-
+-- What a search gives with one rule more, which asks for a kept literal's opposite.
 pub record Denied (n : ℕ) (ys ns : List ℕ) (on off : ℕ) (kept : LiteralSet) (r : SearchResult) : Type 0 where
-  pub said : Denies n ys ns on off kept r
+  pub searched : Searched n (ys ++ (kept .no ∷ [])) (ns ++ (kept .yes ∷ [])) on off r
 
 -- ---- what is forced
 

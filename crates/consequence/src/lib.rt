@@ -5,7 +5,7 @@ ghost use mathlib.Core.List.{[], _∷_, _++_};
 ghost use Prim.Native.Nat.{_+_, _^_, _<_, _≤_};
 ghost use lib.ListN.{length, take};
 ghost use Rattle.problem.specs.Limits.{mostRules};
-ghost use Rattle.sat.specs.Contracts.{Posed, Searched};
+ghost use Rattle.sat.specs.Contracts.{Posed};
 ghost use Rattle.consequence.specs.Contracts.{Choosing, Denied, Narrowed, Concluded};
 use literals::LiteralSet;
 use problem::MaskedProblem;

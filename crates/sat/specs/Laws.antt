@@ -1,8 +1,8 @@
--- Laws of fillings, rules and the order of preference, and the steps of the search. Assumes nothing.
+-- Laws of fillings and rules, and the steps of the search. Assumes nothing.
 pub mod Fillings
-pub mod Rank
 pub mod Rules
-pub mod Looks
 pub mod Assigns
+pub mod Looks
 pub mod Scans
+pub mod Resolution
 pub mod Searches

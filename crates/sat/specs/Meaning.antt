@@ -1,9 +1,9 @@
--- Fillings, models and the first model (document 01, "Models and consequence").
+-- Fillings and models (document 01, "Models and consequence").
 -- A filling of n variables is a number below 2 ^ n: bit v is the value of variable v + 1, 1 for yes and 0 for no.
 use mathlib.Core.Path.{_≡_}
 use mathlib.Core.Bool.{Bool, true, false, not, _&&_}
 use mathlib.Core.List.{List, [], _∷_}
-use Prim.Native.Nat.{ℕ, zero, suc, _+_, _*_, _/_, _%_, _^_, _≤_, _<_}
+use Prim.Native.Nat.{ℕ, zero, suc, _^_, _<_}
 use Rattle.sets.specs.Sets.{Within, Apart}
 use Rattle.literals.specs.Literal.{Literal}
 use Rattle.literals.specs.Truth.{obeys, allHold, obeysMasks, allHoldMasks}
@@ -56,15 +56,3 @@ pub record Model (n : ℕ) (ys ns : List ℕ) (on off f : ℕ) : Type 0 where
 -- No filling is a model.
 pub record NoModel (n : ℕ) (ys ns : List ℕ) (on off : ℕ) : Type 0 where
   pub none : (f : ℕ) → Model n ys ns on off f → ⊥
-
--- ---- the order of fillings
-
--- The place of a filling in the order of preference: the number whose n digits, variable 1 weightiest, are 1 where f differs from `prefer`.
-unfoldable pub rank : ℕ → ℕ → ℕ → ℕ
-rank zero prefer f = 0
-rank (suc n) prefer f = (prefer + f) % 2 * 2 ^ n + rank n (prefer / 2) (f / 2)
-
--- m is the first model in the order of preference.
-pub record FirstModel (n : ℕ) (ys ns : List ℕ) (on off prefer m : ℕ) : Type 0 where
-  pub model : Model n ys ns on off m
-  pub first : (f : ℕ) → Model n ys ns on off f → rank n prefer m ≤ rank n prefer f

@@ -1,10 +1,12 @@
 // The search for a model: a filling of the variables that extends a partial filling and obeys every rule.
 // Rule i is two masks: it asks for a yes among the variables of `yes[i]` or a no among those of `no[i]`.
+// A branch that fails hands back a rule that every filling of the rules obeys, and what it names says how far up the
+// failure reaches: conflict analysis to the first unique implication point, with the calls as its only memory.
 ghost use mathlib.Core.Path.{_≡_};
-ghost use Prim.Native.Nat.{_<_};
+ghost use Prim.Native.Nat.{_≤_, _<_};
 ghost use lib.ListN.{length};
-ghost use Rattle.sets.specs.Sets.{width};
-ghost use Rattle.sat.specs.Contracts.{Posed, Assigned, Only, Looked, Scanned, Settled, Searched};
+ghost use Rattle.sets.specs.Sets.{width, union, diff};
+ghost use Rattle.sat.specs.Contracts.{Posed, Assigned, Looked, RuleAt, ToTry, Chosen, Passed, LeftBetween, LeftByAll, HandedUp, Resolved, Posable, Completes, Following, Forcing, Trying, Followed, Searched};
 
 // A partial filling: the variables of `on` are yes, those of `off` are no, and the others are not set.
 pub struct Partial {
@@ -12,19 +14,40 @@ pub struct Partial {
     pub off: u64,
 }
 
-// What a rule tells under a partial filling: that no filling obeys it, that variable `v` must have the value, or
-// neither.
-enum Look {
-    Conflict,
-    Forced { v: u32, value: bool },
-    Quiet,
+// A rule: a yes among the variables of `yes`, or a no among those of `no`.
+struct Rule {
+    yes: u64,
+    no: u64,
 }
 
-// What a pass over all rules tells: that no filling obeys them, that more variables must be set, or neither.
+// What only steers the search, and no promise depends on: the values tried first, the rule at which the next pass begins,
+// and whether a try has failed.
+struct Hints {
+    prefer: u64,
+    from: usize,
+    failed: bool,
+}
+
+// What a rule tells under a partial filling: that each of its literals is false; that all but one are, of a variable not
+// set; or neither, with its variables that are not set, none where a literal is true.
+enum Look {
+    Conflict,
+    Unit,
+    Quiet(u64),
+}
+
+// What a pass over the rules tells: a rule that is false; one that forces a variable, and the place after it; or neither,
+// with the variables not set of the rules that have no true literal.
 enum Pass {
-    Clash,
-    Extended(Partial),
-    Done,
+    Conflict(Rule),
+    Unit { rule: Rule, next: usize },
+    Quiet(u64),
+}
+
+// What a branch of the search gives: a model, or a rule that every filling of the rules obeys.
+enum Branch {
+    Model(u64),
+    Implied(Rule),
 }
 
 // What the search finds.
@@ -51,106 +74,285 @@ pub fn assign(p: Partial, v: u32, value: bool) -> Partial
     }
 }
 
-// What the literals tell that can still be true, where all are of one sign: the variables `free`, and the value that
-// makes them true.
-fn only(free: u64, value: bool) -> Look
-    ensures { λ r. ⌜ Only free value r ⌝ }
+// What one rule tells. Most rules have a true literal, or two variables or more that can still make one true, and one
+// test finds those.
+fn look_at(rule: Rule, p: Partial) -> Look
+    ensures { λ r. ⌜ Looked (rule .yes) (rule .no) (p .on) (p .off) r ⌝ }
 {
-    if free == 0 {
+    let met = (p.on & rule.yes) | (p.off & rule.no);
+    let left = sets::difference(rule.yes, p.off) | sets::difference(rule.no, p.on);
+    let several = left & std::num::wrapping_sub_u64(left, 1);
+    let quiet = met | several;
+    if quiet != 0 {
+        return if met == 0 {
+            Look::Quiet(left)
+        } else {
+            Look::Quiet(0)
+        };
+    }
+    if left == 0 {
         return Look::Conflict;
     }
-    let v = sets::lowest(free);
-    if free == sets::single(v) {
-        return Look::Forced { v: v, value: value };
+    if left != sets::single(sets::lowest(left)) {
+        return Look::Quiet(left);
     }
-    Look::Quiet
+    let both = rule.yes & rule.no;
+    if left & both != 0 {
+        return Look::Quiet(left);
+    }
+    Look::Unit
 }
 
-// What one rule tells. Most rules have a true literal, or two variables or more that can still make one true, and one
-// test finds those. A rule left with one variable in literals of both signs is always obeyed.
-fn look_at(yes: u64, no: u64, p: Partial) -> Look
-    ensures { λ r. ⌜ Looked yes no (p .on) (p .off) r ⌝ }
-{
-    let met = (p.on & yes) | (p.off & no);
-    let a = sets::difference(yes, p.off);
-    let b = sets::difference(no, p.on);
-    let more = (a | b) & std::num::wrapping_sub_u64(a | b, 1);
-    let quiet = met | more;
-    if quiet != 0 {
-        return Look::Quiet;
-    }
-    if a == 0 {
-        return only(b, false);
-    }
-    if b == 0 {
-        return only(a, true);
-    }
-    Look::Quiet
-}
-
-// One pass over the rules. What a rule forces is set at once, so that the rules after it are seen with it.
-fn scan(yes: &[u64], no: &[u64], p: Partial) -> Pass
+// Rule i.
+fn rule_at(yes: &[u64], no: &[u64], i: usize) -> Rule
     requires { ⌜ length (now yes) ≡ length (now no) ⌝ }
-    ensures { λ r. ⌜ Scanned (now (yes .entry)) (now (no .entry)) (p .on) (p .off) r ⌝ }
+    requires { ⌜ i < length (now yes) ⌝ }
+    ensures { λ r. ⌜ RuleAt (now (yes .entry)) (now (no .entry)) i (r .yes) (r .no) ⌝ }
 {
-    let mut q = p;
-    let mut moved = false;
+    Rule {
+        yes: yes[i],
+        no: no[i],
+    }
+}
+
+// The rules from `start` to before `stop`, where those gone over before left the variables `pending`.
+fn scan_range(yes: &[u64], no: &[u64], p: Partial, start: usize, stop: usize, pending: u64) -> Pass
+    requires { ⌜ length (now yes) ≡ length (now no) ⌝ }
+    requires { ⌜ stop ≤ length (now yes) ⌝ }
+    ensures { λ r. ⌜ Passed (LeftBetween start stop (now (yes .entry)) (now (no .entry)) (p .on) (p .off) pending) (now (yes .entry)) (now (no .entry)) (p .on) (p .off) r ⌝ }
+{
+    let mut all = pending;
+    let mut i = start;
+    while i < stop {
+        let rule = rule_at(yes, no, i);
+        i += 1;
+        match look_at(rule, p) {
+            Look::Conflict => return Pass::Conflict(rule),
+            Look::Unit => return Pass::Unit {
+                rule: rule,
+                next: i,
+            },
+            Look::Quiet(left) => {
+                all = sets::union(all, left);
+            }
+        }
+    }
+    Pass::Quiet(all)
+}
+
+// Where a pass begins: at the place hinted at, or at the first rule.
+fn start_at(from: usize, rules: usize) -> usize
+    ensures { λ r. ⌜ r ≤ rules ⌝ }
+{
+    if from < rules { from } else { 0 }
+}
+
+// One pass over all rules, from a place on and round to it again.
+fn scan(yes: &[u64], no: &[u64], p: Partial, from: usize) -> Pass
+    requires { ⌜ length (now yes) ≡ length (now no) ⌝ }
+    ensures { λ r. ⌜ Passed (LeftByAll (now (yes .entry)) (now (no .entry)) (p .on) (p .off)) (now (yes .entry)) (now (no .entry)) (p .on) (p .off) r ⌝ }
+{
+    let rules = yes.len();
+    let start = start_at(from, rules);
+    match scan_range(yes, no, p, start, rules, 0) {
+        Pass::Conflict(rule) => Pass::Conflict(rule),
+        Pass::Unit { rule, next } => Pass::Unit { rule, next },
+        Pass::Quiet(pending) => scan_range(yes, no, p, 0, start, pending),
+    }
+}
+
+// The variables not set of the shortest rule that has no true literal, among variables to try.
+fn shortest(yes: &[u64], no: &[u64], p: Partial, pending: u64) -> u64
+    requires { ⌜ length (now yes) ≡ length (now no) ⌝ }
+    requires { ⌜ ToTry (now yes) (now no) (p .on) (p .off) pending ⌝ }
+    ensures { λ r. ⌜ ToTry (now (yes .entry)) (now (no .entry)) (p .on) (p .off) r ⌝ }
+{
+    let mut pick = pending;
+    let mut least = sets::count(pending);
     let mut i = 0;
     while i < yes.len() {
-        let l = look_at(yes[i], no[i], q);
+        let rule = rule_at(yes, no, i);
         i += 1;
-        match l {
-            Look::Conflict => return Pass::Clash,
-            Look::Forced { v, value } => {
-                q = assign(q, v, value);
-                moved = true;
+        if let Look::Quiet(left) = look_at(rule, p) {
+            let size = sets::count(left);
+            if left != 0 && size < least {
+                pick = left;
+                least = size;
             }
-            Look::Quiet => {}
         }
     }
-    if moved { Pass::Extended(q) } else { Pass::Done }
+    pick
 }
 
-// The first model. What the rules force is set until they force nothing more; then a variable is tried.
-fn follow(n: u32, yes: &[u64], no: &[u64], p: Partial, prefer: u64) -> SearchResult
-    requires { ⌜ Posed n (now yes) (now no) (p .on) (p .off) ⌝ }
-    ensures { λ r. ⌜ Searched n (now (yes .entry)) (now (no .entry)) (p .on) (p .off) prefer r ⌝ }
+// The variable to try: the lowest that is open, and after a failure the lowest of the shortest open rule. The first finds
+// models that deny few preferred values, the second refutes sooner.
+fn choose(yes: &[u64], no: &[u64], p: Partial, pending: u64, failed: bool) -> u32
+    requires { ⌜ length (now yes) ≡ length (now no) ⌝ }
+    requires { ⌜ ToTry (now yes) (now no) (p .on) (p .off) pending ⌝ }
+    ensures { λ r. ⌜ Chosen (now (yes .entry)) (now (no .entry)) (p .on) (p .off) r ⌝ }
 {
-    let s = scan(yes, no, p);
-    match s {
-        Pass::Clash => SearchResult::Nothing,
-        Pass::Extended(q) => follow(n, yes, no, q, prefer),
-        Pass::Done => try_variable(n, yes, no, p, prefer),
+    if failed {
+        let short = shortest(yes, no, p, pending);
+        return sets::lowest(short);
     }
+    sets::lowest(pending)
 }
 
-// The first model, where no rule is a conflict or forces a variable. The lowest variable that is not set weighs most,
-// so its preferred value comes first.
-fn try_variable(n: u32, yes: &[u64], no: &[u64], p: Partial, prefer: u64) -> SearchResult
-    requires { ⌜ Settled n (now yes) (now no) (p .on) (p .off) ⌝ }
-    ensures { λ r. ⌜ Searched n (now (yes .entry)) (now (no .entry)) (p .on) (p .off) prefer r ⌝ }
+// A filling that extends the partial one: the other variables have their preferred values.
+fn complete(n: u32, p: Partial, prefer: u64) -> u64
+    requires { ⌜ Posable n (p .on) (p .off) ⌝ }
+    ensures { λ r. ⌜ Completes n (p .on) (p .off) r ⌝ }
 {
     let free = sets::complement(n, sets::union(p.on, p.off));
-    if free == 0 {
-        return SearchResult::Found(p.on);
+    sets::union(p.on, sets::intersection(free, prefer))
+}
+
+// The variables of a rule that are not set.
+fn unset_of(rule: Rule, p: Partial) -> u64
+    ensures { λ r. ⌜ r ≡ diff (union (rule .yes) (rule .no)) (union (p .on) (p .off)) ⌝ }
+{
+    let set = sets::union(p.on, p.off);
+    sets::difference(sets::union(rule.yes, rule.no), set)
+}
+
+// Whether a rule that is a conflict or forces a variable is none of this frame's: it forces nothing here, or would have
+// forced the same before the last try.
+fn handed_up(rule: Rule, p: Partial, base: u64) -> bool
+    ensures { λ r. ⌜ HandedUp base (rule .yes) (rule .no) (p .on) (p .off) r ⌝ }
+{
+    let left = unset_of(rule, p);
+    if left == 0 {
+        return true;
     }
-    let v = sets::lowest(free);
-    let value = sets::has(prefer, v);
-    let preferred = assign(p, v, value);
-    let r = follow(n, yes, no, preferred, prefer);
-    match r {
-        SearchResult::Found(m) => SearchResult::Found(m),
-        SearchResult::Nothing => {
-            let other = assign(p, v, !value);
-            follow(n, yes, no, other, prefer)
+    let others = sets::difference(sets::union(rule.yes, rule.no), left);
+    sets::subset(others, base)
+}
+
+// What the rule of a failed branch becomes where `v`, set because of `reason`, is unset again. It stays as it is where it
+// does not name `v`, or where it forces `v` by what was set before the last try; else the two are resolved on `v`.
+fn resolve(rule: Rule, reason: Rule, v: u32, base: u64) -> Rule
+    requires { ⌜ v < width ⌝ }
+    ensures { λ r. ⌜ Resolved base v (rule .yes) (rule .no) (reason .yes) (reason .no) (r .yes) (r .no) ⌝ }
+{
+    let variables = sets::union(rule.yes, rule.no);
+    let others = sets::remove(variables, v);
+    if others == variables {
+        return rule;
+    }
+    if sets::subset(others, base) {
+        return rule;
+    }
+    Rule {
+        yes: sets::remove(sets::union(rule.yes, reason.yes), v),
+        no: sets::remove(sets::union(rule.no, reason.no), v),
+    }
+}
+
+// A branch with the variable set that `reason` forces. Where it fails, its rule is resolved with `reason`.
+fn force(
+    n: u32,
+    yes: &[u64],
+    no: &[u64],
+    p: Partial,
+    base: u64,
+    reason: Rule,
+    hints: Hints,
+) -> Branch
+    requires { ⌜ Forcing n (now yes) (now no) (p .on) (p .off) base (reason .yes) (reason .no) ⌝ }
+    ensures { λ r. ⌜ Followed n (now (yes .entry)) (now (no .entry)) (p .on) (p .off) base r ⌝ }
+{
+    let v = sets::lowest(unset_of(reason, p));
+    let q = assign(p, v, sets::has(reason.yes, v));
+    match follow(n, yes, no, q, base, hints) {
+        Branch::Model(m) => Branch::Model(m),
+        Branch::Implied(rule) => Branch::Implied(resolve(rule, reason, v, base)),
+    }
+}
+
+// A branch from a partial filling on; `base` is what was set before the last try. What the rules force is set until they
+// force nothing more; then a variable is tried, unless each rule has a true literal.
+fn follow(n: u32, yes: &[u64], no: &[u64], p: Partial, base: u64, hints: Hints) -> Branch
+    requires { ⌜ Following n (now yes) (now no) (p .on) (p .off) base ⌝ }
+    ensures { λ r. ⌜ Followed n (now (yes .entry)) (now (no .entry)) (p .on) (p .off) base r ⌝ }
+{
+    match scan(yes, no, p, hints.from) {
+        Pass::Conflict(rule) => Branch::Implied(rule),
+        Pass::Unit { rule, next } => {
+            let onward = Hints {
+                prefer: hints.prefer,
+                from: next,
+                failed: hints.failed,
+            };
+            force(n, yes, no, p, base, rule, onward)
+        }
+        Pass::Quiet(pending) => {
+            if pending == 0 {
+                return Branch::Model(complete(n, p, hints.prefer));
+            }
+            try_variable(n, yes, no, p, base, pending, hints)
         }
     }
 }
 
-// The first model that extends `p`, in the order where variable 1 weighs most and its value in `prefer` comes first.
+// A branch in which a variable of `pending` is tried, its preferred value first. Where that fails with a rule that does not
+// reach above this frame, the rule forces a variable here: the other value of the one tried, or another variable.
+fn try_variable(
+    n: u32,
+    yes: &[u64],
+    no: &[u64],
+    p: Partial,
+    base: u64,
+    pending: u64,
+    hints: Hints,
+) -> Branch
+    requires { ⌜ Trying n (now yes) (now no) (p .on) (p .off) base pending ⌝ }
+    ensures { λ r. ⌜ Followed n (now (yes .entry)) (now (no .entry)) (p .on) (p .off) base r ⌝ }
+{
+    let v = choose(yes, no, p, pending, hints.failed);
+    let q = assign(p, v, sets::has(hints.prefer, v));
+    let set = sets::union(p.on, p.off);
+    match follow(n, yes, no, q, set, hints) {
+        Branch::Model(m) => Branch::Model(m),
+        Branch::Implied(rule) => {
+            if handed_up(rule, p, base) {
+                return Branch::Implied(rule);
+            }
+            let after = Hints {
+                prefer: hints.prefer,
+                from: 0,
+                failed: true,
+            };
+            force(n, yes, no, p, base, rule, after)
+        }
+    }
+}
+
+// A model that extends `p` and obeys every rule, or that there is none. A rule that fails at the top forces one more
+// variable, or shows that there is no model.
 pub fn search(n: u32, yes: &[u64], no: &[u64], p: Partial, prefer: u64) -> SearchResult
     requires { ⌜ Posed n (now yes) (now no) (p .on) (p .off) ⌝ }
-    ensures { λ r. ⌜ Searched n (now (yes .entry)) (now (no .entry)) (p .on) (p .off) prefer r ⌝ }
+    ensures { λ r. ⌜ Searched n (now (yes .entry)) (now (no .entry)) (p .on) (p .off) r ⌝ }
 {
-    follow(n, yes, no, p, prefer)
+    let mut q = p;
+    let mut failed = false;
+    loop {
+        let base = sets::union(q.on, q.off);
+        let hints = Hints {
+            prefer: prefer,
+            from: 0,
+            failed: failed,
+        };
+        match follow(n, yes, no, q, base, hints) {
+            Branch::Model(m) => return SearchResult::Found(m),
+            Branch::Implied(rule) => {
+                let left = unset_of(rule, q);
+                if left == 0 {
+                    return SearchResult::Nothing;
+                }
+                let v = sets::lowest(left);
+                q = assign(q, v, sets::has(rule.yes, v));
+                failed = true;
+            }
+        }
+    }
 }

@@ -3,14 +3,10 @@ use mathlib.Core.List.{[], _∷_, _++_}
 use Prim.Native.Nat.{_+_}
 use lib.ListN.{length, take, length-append}
 use denote.Ref.{now}
-use Rattle.consequence.proofs.DenyLaws.{posed-more, denied}
+use Rattle.consequence.proofs.DenyLaws.{posed-more}
 use borrow.Author.Needs.{needs}
 use Rattle.consequence.proofs.deny.Statement.{statement}
 use Rattle.consequence.proofs.deny.Tie as tie
-use Rattle.consequence.proofs.deny.Reads as reads
-use Rattle.consequence.proofs.deny.Lts as lts
-use Rattle.consequence.proofs.with_one_more.Reads as with-one-more-reads
-use Rattle.sat.proofs.search.Reads as search-reads
 
 -- the two lists of rules with one more, as the search is handed them
 yes-more : (c : tie.After-with-one-more2)
@@ -46,7 +42,7 @@ search-requires : tie.Need-search-requires
 search-requires c κs = rw (yes-more (c .before .before), no-more (c .before .before)) (posed-more _ _ (c .before .before .before .before .before .before .pre .0) (c .before .before .before .before .before .before .pre .1 .1 .1) (c .before .before .before .before .before .before .pre .1 .1 .0))
 
 returns : tie.Need-returns
-returns c = denied _ _ _ _ _ _ _ _ (rw (yes-more (c .before .before .before), no-more (c .before .before .before)) at (c .search .ensures))
+returns c = record { searched = rw (yes-more (c .before .before .before), no-more (c .before .before .before)) at (c .search .ensures) }
 
 pub deny-spec : {M : Type 1} → statement M
 deny-spec =

@@ -1,13 +1,9 @@
-use Rattle.sat.specs.Laws.Searches.{searched-first, searched-none}
+use Rattle.sat.specs.Laws.Searches.{searched-model, searched-none}
 use Rattle.consequence.specs.Laws.Forcing.{none-contradicts, model-contradicts}
 use Rattle.consequence.specs.Laws.Masks.{to-theory, none-to-theory}
 use borrow.Author.Needs.{needs}
 use Rattle.consequence.proofs.propagate.Statement.{statement}
 use Rattle.consequence.proofs.propagate.Tie as tie
-use Rattle.consequence.proofs.propagate.Reads as reads
-use Rattle.consequence.proofs.propagate.Lts as lts
-use Rattle.consequence.proofs.narrow.Reads as narrow-reads
-use Rattle.sat.proofs.search.Reads as search-reads
 
 search-requires : tie.Need-search-requires
 search-requires c κs = search needs
@@ -20,13 +16,13 @@ enum-known-m c = search needs
 
 narrow-requires : tie.Need-narrow-requires
 narrow-requires c κs =
-    record { posed = c .before .before .before .before .before .before .pre .0; few = c .before .before .before .before .before .before .pre .1 .0; choices-below = c .before .before .before .before .before .before .pre .1 .1; model = searched-first (c .before .before .before .search .ensures) (c .before .m .given .1) .model }
+    record { posed = c .before .before .before .before .before .before .pre .0; few = c .before .before .before .before .before .before .pre .1 .0; choices-below = c .before .before .before .before .before .before .pre .1 .1; model = searched-model (c .before .before .before .search .ensures) (c .before .m .given .1) }
 
 returns : tie.Need-returns
 returns c = record { said = none-contradicts _ _ _ (none-to-theory _ (searched-none (c .before .before .search .ensures) (c .enum-told .given .1))) }
 
 returns-2 : tie.Need-returns-2
-returns-2 c = record { said = (model-contradicts _ _ _ _ (to-theory _ (searched-first (c .before .before .before .before .search .ensures) (c .before .before .m .given .1) .model)), c .narrow .ensures) }
+returns-2 c = record { said = (model-contradicts _ _ _ _ (to-theory _ (searched-model (c .before .before .before .before .search .ensures) (c .before .before .m .given .1))), c .narrow .ensures) }
 
 pub propagate-spec : {M : Type 1} → statement M
 propagate-spec =

@@ -1,13 +1,10 @@
 use mathlib.Core.Path.{refl, sym}
 use native.Mathlib.Omega.{arith}
 use lib.Seq.{length-take-le}
-use Rattle.sat.specs.Laws.Searches.{searched-first, searched-none}
+use Rattle.sat.specs.Laws.Searches.{searched-model, searched-none}
 use borrow.Author.Needs.{needs}
 use Rattle.engine.proofs.search_model.Statement.{statement}
 use Rattle.engine.proofs.search_model.Tie as tie
-use Rattle.engine.proofs.search_model.Reads as reads
-use Rattle.engine.proofs.search_model.Lts as lts
-use Rattle.sat.proofs.search.Reads as search-reads
 
 array-share-prefix-yes : tie.Need-array-share-prefix-yes
 array-share-prefix-yes c = search needs
@@ -31,7 +28,7 @@ enum-told : tie.Need-enum-told
 enum-told c = search needs
 
 returns : tie.Need-returns
-returns c = record { said = searched-first (c .before .before .before .search .ensures) (c .before .m .given .1) .model }
+returns c = record { said = searched-model (c .before .before .before .search .ensures) (c .before .m .given .1) }
 
 returns-2 : tie.Need-returns-2
 returns-2 c = record { said = (refl, refl, searched-none (c .before .before .search .ensures) (c .enum-told .given .1)) }

@@ -1,102 +1,150 @@
--- A pass over the rules: a law for each step of `scan`. Assumes nothing.
-use mathlib.Core.Path.{_≡_, refl, subst}
-use mathlib.Core.Logic.{by-cases}
-use mathlib.Core.Bool.{Bool, true, false}
+-- The steps of a pass over the rules: a law for each. Assumes nothing.
+use mathlib.Core.Path.{_≡_, sym, subst}
+use mathlib.Core.Logic.{_≢_, by-cases}
 use mathlib.Core.List.{List}
-use Prim.Native.Nat.{ℕ, _+_, _≤_, _<_}
-use native.Mathlib.Decide.{ℕ-discrete}
+use Prim.Native.Nat.{ℕ, _+_, _≤_}
+use native.Mathlib.Decide.{ℕ-discrete, decLt}
 use native.Mathlib.Omega.{arith}
-use lib.ListN.{length, getD}
-use Rattle.sets.specs.Sets.{width}
-use Rattle.sat.specs.Contracts.{Posed, Assigned, ForcesVariable, Looked, unset, Moves, Passing, Scanned}
-use Rattle.sat.specs.Laws.Rules.{obeys-at, obeys-each}
-use Rattle.sat.specs.Laws.Assigns.{model-assigned, assigned-model, posed-assigned, unset-less}
+use lib.ListN.{length}
+use lib.Pow.{pow-pos}
+use Rattle.sets.specs.Sets.{union, Lowest}
+use Rattle.sets.specs.Laws.Bits.{bit-le, bit-zero, bit-union, union-lt}
+use Rattle.sets.specs.Laws.Subset.{within-refl, within-le, in-union}
+use Rattle.sat.specs.Contracts.{LeftOpen, Looked, RuleAt, Open, ToTry, Chosen, Gives, Passed, LeftBetween, LeftByAll}
 use Rattle.sat.specs.declared.Look.{Look}
-use Rattle.sat.specs.declared.Look.the-variants.{Conflict, Forced, Quiet}
-use Rattle.sat.specs.declared.Partial.{Partial}
-use Rattle.sat.specs.declared.Pass.the-variants.{Clash, Extended, Done}
+use Rattle.sat.specs.declared.Look.the-variants as Look
+use Rattle.sat.specs.declared.Rule.{Rule}
+use Rattle.sat.specs.declared.Pass.{Pass}
+use Rattle.sat.specs.declared.Pass.the-variants as Pass
 
--- before the first rule
-pub scan-start : {ys ns : List ℕ} {on off : ℕ} → Passing false 0 ys ns on off on off
-scan-start =
+-- nothing is open
+open-none : (ys ns : List ℕ) (on off : ℕ) → Open ys ns on off 0
+open-none ys ns on off =
     record {
-      keeps = record { posed = λ n p. p; forth = λ n f m. m; back = λ n f m. m };
-      moves = (refl, refl, record { each-quiet = λ j h. absurd (omega arith) });
+      below = λ n p q. omega (arith, pow-pos n);
+      not-set = record { avoids = λ v. omega (arith, bit-zero v, bit-le (union on off) v) };
     }
 
--- the variable that a look forces
-pub look-small : {y n on off v : ℕ} {value : Bool} {r : Look} → Looked y n on off r → r ≡ Forced v value → v < width
-look-small {y} {n} {on} {off} l e = subst (Looked y n on off) e l .said .small
+-- two sets, and nothing in either
+none-left : (x l : ℕ) → union x l ≡ 0 → x ≡ 0
+none-left x l e = omega (arith, within-le x (union x l) (in-union x l))
 
-module _ {ys ns : List ℕ} {on off a b i : ℕ} {moved : Bool} {r : Look} where
-  -- a rule that no filling obeys
-  pub scan-conflict : length ys ≡ length ns → i < length ys → Passing moved i ys ns on off a b → Looked (getD ys i 0) (getD ns i 0) a b r
-      → r ≡ Conflict → Scanned ys ns on off Clash
-  scan-conflict p h x l e =
-      record {
-        said = λ n. record {
-          none = λ f m.
-              let z = x .keeps .forth n f m in
-              let t = subst (Looked (getD ys i 0) (getD ns i 0) a b) e l in
-              t .said .never f (z .keeps) (z .avoids) (obeys-at f ys ns i (z .obeyed) h (omega arith));
-        };
-      }
+none-right : (x l : ℕ) → union x l ≡ 0 → l ≡ 0
+none-right x l e =
+    omega (arith, within-le l (union x l) (record { keeps = λ v. omega (arith, bit-union x l v) }))
 
-  -- a rule that tells nothing
-  pub scan-quiet : Passing moved i ys ns on off a b → Looked (getD ys i 0) (getD ns i 0) a b r → r ≡ Quiet → Passing moved (i + 1) ys ns on off a b
-  scan-quiet x l e = record { keeps = x .keeps; moves = go moved (x .moves) }
+-- ---- `scan_range`
+
+-- before the first rule
+pub range-start : {i : ℕ} {ys ns : List ℕ} {on off z : ℕ} → LeftBetween i i ys ns on off z z
+range-start {i} {ys} {ns} {on} {off} {z} =
+    record {
+      open-more = λ o. o;
+      more = within-refl z;
+      none-met = λ e. record { each-met = λ k h l. absurd (omega arith) };
+    }
+
+-- what rule j leaves open, of n variables
+pub left-below : {ys ns : List ℕ} {on off j y m l : ℕ} → RuleAt ys ns j y m → LeftOpen y m on off l → Open ys ns on off l
+left-below {ys} {ns} {on} {off} {j} {y} {m} {l} a t =
+    record {
+      below = λ n f g.
+          omega (
+            arith,
+            within-le l (union y m) (t .within),
+            union-lt n y m (rw (a .yes-there) (f .below j (a .yes-place))) (rw (a .no-there) (g .below j (a .no-place))),
+          );
+      not-set = t .not-set;
+    }
+
+module _ {ys ns : List ℕ} {on off j y m : ℕ} {r : Look} where
+  -- a rule that is no conflict and forces nothing
+  pub range-quiet : {i z x l w : ℕ} → LeftBetween i j ys ns on off z x → RuleAt ys ns j y m → Looked y m on off r → r ≡ Look.Quiet l → w ≡ union x l
+      → LeftBetween i (j + 1) ys ns on off z w
+  range-quiet {i} {z} {x} {l} {w} b a s e q =
+      rw q (record {
+        open-more = λ o.
+            let c = b .open-more o in
+            let d = left-below a t in
+            record {
+              below = λ n f g. union-lt n x l (c .below n f g) (d .below n f g);
+              not-set = record { avoids = λ v. omega (arith, bit-union x l v, c .not-set .avoids v, d .not-set .avoids v) };
+            };
+        more = record { keeps = λ v. omega (arith, b .more .keeps v, bit-union x l v) };
+        none-met = λ d.
+            record {
+              each-met = λ k f g.
+                  by-cases (ℕ-discrete k j) (λ s. rw (s, sym (a .yes-there), sym (a .no-there)) (t .none-met (none-right x l d)))
+                  (λ s. b .none-met (none-left x l d) .each-met k f (omega arith));
+            };
+      })
     where
-      here : Moves false i ys ns on off a b → Looked (getD ys i 0) (getD ns i 0) on off Quiet
-      here z = rw (z .0, z .1) at (subst (Looked (getD ys i 0) (getD ns i 0) a b) e l)
+      t : LeftOpen y m on off l
+      t = subst (Looked y m on off) e s .said
 
-      go : (m : Bool) → Moves m i ys ns on off a b → Moves m (i + 1) ys ns on off a b
-      go true z = z
-      go false z = (z .0, z .1, record { each-quiet = λ j h. by-cases (ℕ-discrete j i) (λ q. rw q (here z)) (λ q. z .2 .each-quiet j (omega arith)) })
+  -- variables to try
+  pub shorter : {l : ℕ} → RuleAt ys ns j y m → Looked y m on off r → r ≡ Look.Quiet l → l ≢ 0 → ToTry ys ns on off l
+  shorter {l} a s e z = record { opened = left-below a (subst (Looked y m on off) e s .said); some = omega arith }
 
-  -- a rule that forces a variable
-  pub scan-forced : {v c d : ℕ} {value : Bool} → length ys ≡ length ns → i < length ys → Passing moved i ys ns on off a b
-      → Looked (getD ys i 0) (getD ns i 0) a b r → r ≡ Forced v value → Assigned a b v value c d → Passing true (i + 1) ys ns on off c d
-  scan-forced {v} {c} {d} {value} p h x l e s =
-      record {
-        keeps = record {
-          posed = λ n q. posed-assigned (x .keeps .posed n q) (below n q) (t .not-on) (t .not-off) s;
-          forth = λ n f m.
-              let z = x .keeps .forth n f m in
-              model-assigned s z (t .forces f (z .keeps) (z .avoids) (obeys-at f ys ns i (z .obeyed) h (omega arith)));
-          back = λ n f m. x .keeps .back n f (assigned-model s m .0);
-        };
-        moves = record {
-          fewer = λ n q.
-              omega (arith, left moved n (x .moves) q, unset-less {a = c} {b = d} (x .keeps .posed n q) (below n q) (t .not-on) (t .not-off) s);
-        };
-      }
-    where
-      t : ForcesVariable (getD ys i 0) (getD ns i 0) a b v value
-      t = subst (Looked (getD ys i 0) (getD ns i 0) a b) e l .said
+-- a rule that is a conflict, or forces a variable
+module _ {Left : ℕ → Type 0} {ys ns : List ℕ} {on off j : ℕ} {rule : Rule} {r : Look} where
+  pub range-conflict : RuleAt ys ns j (rule .yes) (rule .no) → Looked (rule .yes) (rule .no) on off r → r ≡ Look.Conflict
+      → Passed Left ys ns on off (Pass.Conflict rule)
+  range-conflict a s e = record { said = (record { place = j; rule = a }, subst (Looked (rule .yes) (rule .no) on off) e s .said) }
 
-      below : (n : ℕ) → Posed n ys ns on off → v < n
-      below n q = t .within n (q .yes-masks .below i h) (q .no-masks .below i (omega arith))
-
-      left : (m : Bool) (n : ℕ) → Moves m i ys ns on off a b → Posed n ys ns on off → unset n a b ≤ unset n on off
-      left true n z q = omega (arith, z .fewer n q)
-      left false n z q = rw (z .0, z .1) (omega arith)
+  pub range-unit : {next : ℕ} → RuleAt ys ns j (rule .yes) (rule .no) → Looked (rule .yes) (rule .no) on off r → r ≡ Look.Unit
+      → Passed Left ys ns on off (Pass.Unit rule next)
+  range-unit a s e = record { said = (record { place = j; rule = a }, subst (Looked (rule .yes) (rule .no) on off) e s .said) }
 
 -- after the last rule
-module _ {ys ns : List ℕ} {on off i : ℕ} where
-  pub scan-extended : {q : Partial} {moved : Bool} → moved ≡ true → Passing moved i ys ns on off (q .on) (q .off) → Scanned ys ns on off (Extended q)
-  scan-extended {q} {moved} e x =
-      record { said = (x .keeps, subst (λ (m : Bool). Moves m i ys ns on off (q .on) (q .off)) e (x .moves)) }
+pub range-done : {i j k : ℕ} {ys ns : List ℕ} {on off z x : ℕ} → k ≤ j → LeftBetween i j ys ns on off z x
+    → Passed (LeftBetween i k ys ns on off z) ys ns on off (Pass.Quiet x)
+range-done h b =
+    record {
+      said = record {
+        open-more = b .open-more;
+        more = b .more;
+        none-met = λ e. record { each-met = λ l f g. b .none-met e .each-met l f (omega arith) };
+      };
+    }
 
-  pub scan-done : {a b : ℕ} {moved : Bool} → moved ≡ false → length ys ≡ length ns → length ys ≤ i → Passing moved i ys ns on off a b
-      → Scanned ys ns on off Done
-  scan-done {a} {b} {moved} e p h x =
-      let z = subst (λ (m : Bool). Moves m i ys ns on off a b) e (x .moves) in
-      record {
-        said = record {
-          still = λ n q f.
-              obeys-each on ys ns
-              (λ j l. z .2 .each-quiet j (omega arith) .said .when-full n (q .yes-masks .below j l) (q .no-masks .below j (omega arith)) f);
-        };
-      }
+-- ---- `scan`
 
-pub ruleset scan-laws = (scan-start, look-small, scan-conflict, scan-quiet, scan-forced, scan-extended, scan-done)
+module _ {Left : ℕ → Type 0} {ys ns : List ℕ} {on off : ℕ} {r : Pass} where
+  -- a conflict, or a rule that forces a variable
+  pub scan-conflict : {rule : Rule} → Passed Left ys ns on off r → r ≡ Pass.Conflict rule → Passed (LeftByAll ys ns on off) ys ns on off (Pass.Conflict rule)
+  scan-conflict p e = record { said = subst (Passed Left ys ns on off) e p .said }
+
+  pub scan-unit : {rule : Rule} {next : ℕ} → Passed Left ys ns on off r → r ≡ Pass.Unit rule next → Passed (LeftByAll ys ns on off) ys ns on off (Pass.Unit rule next)
+  scan-unit p e = record { said = subst (Passed Left ys ns on off) e p .said }
+
+-- neither: the rules before the place
+pub scan-rest : {k x : ℕ} {ys ns : List ℕ} {on off : ℕ} {q r : Pass} → Passed (LeftBetween k (length ys) ys ns on off 0) ys ns on off q → q ≡ Pass.Quiet x
+    → Passed (LeftBetween 0 k ys ns on off x) ys ns on off r → Passed (LeftByAll ys ns on off) ys ns on off r
+scan-rest {k} {x} {ys} {ns} {on} {off} {q} {r} p e s = record { said = go r (s .said) }
+  where
+    first : LeftBetween k (length ys) ys ns on off 0 x
+    first = subst (Passed (LeftBetween k (length ys) ys ns on off 0) ys ns on off) e p .said
+
+    go : (r : Pass) → Gives (LeftBetween 0 k ys ns on off x) ys ns on off r → Gives (LeftByAll ys ns on off) ys ns on off r
+    go (Pass.Conflict rule) g = g
+    go (Pass.Unit rule next) g = g
+    go (Pass.Quiet w) g =
+        record {
+          opened = g .open-more (first .open-more (open-none ys ns on off));
+          none-met = λ z.
+              let f : x ≡ 0 = omega (arith, within-le x w (g .more)) in
+              record {
+                each-met = λ l a b.
+                    by-cases (decLt l k) (λ c. g .none-met z .each-met l a c) (λ c. first .none-met f .each-met l (omega arith) b);
+              };
+        }
+
+-- ---- `choose`
+
+pub chosen : {ys ns : List ℕ} {on off x v : ℕ} → ToTry ys ns on off x → Lowest x v → Chosen ys ns on off v
+chosen {ys} {ns} {on} {off} {x} {v} t l = record { small = l .within; among = x; opened = t .opened; member = l .least .member }
+
+pub ruleset range-laws = (range-start, range-quiet, range-conflict, range-unit, range-done)
+
+pub ruleset scan-laws = (scan-conflict, scan-unit, scan-rest)

@@ -1,195 +1,254 @@
--- The steps of `follow` and `try_variable`: a law for each. Assumes nothing.
-use mathlib.Core.Path.{_≡_, refl, sym, ap, subst, _∙_}
-use mathlib.Core.Logic.{by-cases}
-use mathlib.Core.Bool.{Bool, true, false, not}
+-- The steps of `follow`, `force`, `try_variable` and `search`: a law for each. Assumes nothing.
+use mathlib.Core.Path.{_≡_, sym, ap, subst, _∙_}
+use mathlib.Core.Logic.{_≢_, inl, by-cases}
+use mathlib.Core.Bool.{Bool, true, false}
 use mathlib.Core.List.{List}
-use Prim.Native.Nat.{ℕ, _+_, _*_, _≤_, _<_}
-use native.Mathlib.Decide.{ℕ-discrete}
+use Prim.Native.Nat.{ℕ, _+_, _*_, _^_, _≤_, _<_}
+use native.Mathlib.Decide.{ℕ-discrete, decLt}
 use native.Mathlib.Omega.{arith}
-use Rattle.sets.specs.Sets.{bit, has, union, compl, Lowest}
-use Rattle.sets.specs.Laws.Bits.{bit-le, bit-zero, bit-union, bit-compl, compl-lt, member-lt, ext-below}
-use Rattle.sets.specs.Laws.Subset.{has-true, has-false, within-refl, apart-symm}
-use Rattle.sat.specs.Meaning.{rank, Model, NoModel, FirstModel}
-use Rattle.sat.specs.Contracts.{Posed, digit, Assigned, AllSet, unset, Keeps, Scanned, Settled, LowestUnset, Finds, Searched}
-use Rattle.sat.specs.Laws.Rank.{rank-first, first-unique}
-use Rattle.sat.specs.Laws.Assigns.{model-assigned, assigned-model, posed-assigned, unset-less}
-use Rattle.sat.specs.declared.Partial.{Partial}
+use Rattle.sets.specs.Sets.{bit, has, union, inter, diff, compl, Within, Lowest}
+use Rattle.sets.specs.Laws.Bits.{bit-le, bit-union, bit-inter, bit-compl, bit-compl-high, union-lt, inter-lt, compl-lt, member-lt}
+use Rattle.sets.specs.Laws.Subset.{within-refl, in-union}
+use Rattle.sat.specs.Meaning.{Model, NoModel}
+use Rattle.sat.specs.Contracts.{Posed, Assigned, Unset, unset, Forces, Chosen, Passed, LeftByAll, Implied, Acting, HandedUp, FailedUnder, Resolved, Following, Forcing, Trying, Ends, Followed, Posable, Completes, Keeps, Searched}
+use Rattle.sat.specs.Laws.Rules.{obeys-each}
+use Rattle.sat.specs.Laws.Assigns.{digit-has, assigned-other, model-assigned, assigned-model, posed-assigned, unset-less}
+use Rattle.sat.specs.Laws.Resolution.{placed-acts, tried-acts, left-some, lowest-forced, none-left, some-left, listed-implied, conflict-none, forced-value}
+use Rattle.sat.specs.declared.Rule.{Rule}
 use Rattle.sat.specs.declared.Pass.{Pass}
-use Rattle.sat.specs.declared.Pass.the-variants.{Clash, Extended, Done}
+use Rattle.sat.specs.declared.Pass.the-variants as Pass
+use Rattle.sat.specs.declared.Branch.{Branch}
+use Rattle.sat.specs.declared.Branch.the-variants as Branch
 use Rattle.sat.specs.declared.SearchResult.{SearchResult}
 use Rattle.sat.specs.declared.SearchResult.the-variants.{Found, Nothing}
 
+-- ---- `complete`
+
+-- what is not in s avoids what is
+compl-clear : (n s v : ℕ) → bit (compl n s) v + bit s v ≤ 1
+compl-clear n s v =
+    by-cases (decLt v n) (λ h. omega (arith, bit-compl n s v h, bit-le s v)) (λ h. omega (arith, bit-compl-high n s v (omega arith), bit-le s v))
+
+pub completes : {n on off s c i f : ℕ} (prefer : ℕ) → Posable n on off → s ≡ union on off → c ≡ compl n s → i ≡ inter c prefer → f ≡ union on i
+    → Completes n on off f
+completes {n} {on} {off} {s} {c} {i} {f} prefer p d e g h =
+    rw h (record {
+      below = union-lt n on i (p .on-below) (rw (g, e) (inter-lt n (compl n s) prefer (compl-lt n s)));
+      keeps = in-union on i;
+      avoids = record { avoids = λ v. omega (arith, bit-union on i v, p .apart .avoids v, free v) };
+    })
+  where
+    free : (v : ℕ) → bit off v + bit i v ≤ 1
+    free v =
+        omega (
+          arith,
+          ap (λ (x : ℕ). bit x v) g,
+          bit-inter c prefer v,
+          ap (λ (x : ℕ). bit x v) e,
+          compl-clear n s v,
+          ap (λ (x : ℕ). bit x v) d,
+          bit-union on off v,
+        )
+
+pub posed-posable : {n : ℕ} {ys ns : List ℕ} {on off base : ℕ} → Following n ys ns on off base → Posable n on off
+posed-posable f = record { small = f .posed .small; on-below = f .posed .on-below; apart = f .posed .apart }
+
 -- ---- `follow`
 
-module _ {n : ℕ} {ys ns : List ℕ} {on off : ℕ} {r : Pass} where
-  -- no filling obeys the rules
-  pub follow-clash : {prefer : ℕ} → Scanned ys ns on off r → r ≡ Clash → Searched n ys ns on off prefer Nothing
-  follow-clash s e = record { found = subst (Scanned ys ns on off) e s .said n }
+module _ {n : ℕ} {ys ns : List ℕ} {on off base : ℕ} {p : Pass} where
+  -- a rule is a conflict
+  pub follow-conflict : {rule : Rule} → Following n ys ns on off base → Passed (LeftByAll ys ns on off) ys ns on off p → p ≡ Pass.Conflict rule
+      → Followed n ys ns on off base (Branch.Implied rule)
+  follow-conflict f s e =
+      let t = subst (Passed (LeftByAll ys ns on off) ys ns on off) e s .said in
+      record { ends = (listed-implied (f .posed) (t .0), record { place = inl (t .1) }) }
 
-  -- more variables are set, and the models are the same
-  pub extended-posed : {q : Partial} → Posed n ys ns on off → Scanned ys ns on off r → r ≡ Extended q → Posed n ys ns (q .on) (q .off)
-  extended-posed p s e = subst (Scanned ys ns on off) e s .said .0 .posed n p
+  -- a rule forces a variable
+  pub follow-unit : {rule : Rule} {next : ℕ} → Following n ys ns on off base → Passed (LeftByAll ys ns on off) ys ns on off p → p ≡ Pass.Unit rule next
+      → Forcing n ys ns on off base (rule .yes) (rule .no)
+  follow-unit f s e =
+      let t = subst (Passed (LeftByAll ys ns on off) ys ns on off) e s .said in
+      record { following = f; implied = listed-implied (f .posed) (t .0); unit = t .1 }
 
-  pub extended-less : {q : Partial} {t : ℕ} → Posed n ys ns on off → Scanned ys ns on off r → r ≡ Extended q → 2 * unset n on off + 1 ≡ t
-      → 2 * unset n (q .on) (q .off) + 1 < t
-  extended-less p s e m = omega (arith, subst (Scanned ys ns on off) e s .said .1 .fewer n p)
+  -- each rule has a true literal
+  pub follow-model : {x m : ℕ} → Following n ys ns on off base → Passed (LeftByAll ys ns on off) ys ns on off p → p ≡ Pass.Quiet x → x ≡ 0
+      → Completes n on off m → Followed n ys ns on off base (Branch.Model m)
+  follow-model {x} {m} f s e z c =
+      let t = subst (Passed (LeftByAll ys ns on off) ys ns on off) e s .said in
+      record {
+        ends = record {
+          below = c .below;
+          keeps = c .keeps;
+          avoids = c .avoids;
+          obeyed = obeys-each m ys ns (λ i h. t .none-met z .each-met i (omega arith) h .met m (c .keeps) (c .avoids));
+        };
+      }
 
-  pub extended-found : {q : Partial} {prefer : ℕ} {o : SearchResult} → Scanned ys ns on off r → r ≡ Extended q → Searched n ys ns (q .on) (q .off) prefer o
-      → Searched n ys ns on off prefer o
-  extended-found {q} {prefer} {o} s e x = record { found = go o (x .found) }
-    where
-      k : Keeps ys ns on off (q .on) (q .off)
-      k = subst (Scanned ys ns on off) e s .said .0
+  -- a variable is to be tried
+  pub follow-trying : {x : ℕ} → Following n ys ns on off base → Passed (LeftByAll ys ns on off) ys ns on off p → p ≡ Pass.Quiet x → x ≢ 0
+      → Trying n ys ns on off base x
+  follow-trying f s e z =
+      let t = subst (Passed (LeftByAll ys ns on off) ys ns on off) e s .said in
+      record { following = f; to-try = record { opened = t .opened; some = omega arith } }
 
-      go : (p : SearchResult) → Finds n ys ns (q .on) (q .off) prefer p → Finds n ys ns on off prefer p
-      go (Found m) y = record { model = k .back n m (y .model); first = λ f h. y .first f (k .forth n f h) }
-      go Nothing y = record { none = λ f h. y .none f (k .forth n f h) }
+-- ---- `force`
 
-  -- no rule forces a variable
-  pub done-settled : Posed n ys ns on off → Scanned ys ns on off r → r ≡ Done → Settled n ys ns on off
-  done-settled p s e = record { posed = p; quiet = subst (Scanned ys ns on off) e s .said }
+-- a variable set: base stays set
+set-following : {n : ℕ} {ys ns : List ℕ} {on off v c d base : ℕ} {value : Bool} → Posed n ys ns on off → Within base (union on off) → v < n → bit on v ≡ 0
+    → bit off v ≡ 0 → Assigned on off v value c d → Following n ys ns c d base
+set-following {n} {ys} {ns} {on} {off} {v} {c} {d} {base} p w h x z s =
+    record {
+      posed = posed-assigned p h x z s;
+      base-set = record {
+        keeps = λ u.
+            by-cases (ℕ-discrete u v)
+            (λ e. rw e (omega (arith, w .keeps v, bit-union on off v)))
+            (λ e. omega (arith, w .keeps u, bit-union on off u, bit-union c d u, assigned-other s u e .0, assigned-other s u e .1));
+      };
+    }
+
+-- the forced variable is one of the n
+forced-below : {n : ℕ} {ys ns : List ℕ} {y m on off v : ℕ} → Implied n ys ns y m → Forces y m on off v → v < n
+forced-below {n} {ys} {ns} {y} {m} {on} {off} {v} i t =
+    by-cases (ℕ-discrete (bit y v) 1) (λ e. member-lt n y v e (i .yes-below)) (λ e. member-lt n m v (omega (arith, t .one-sign)) (i .no-below))
+
+module _ {n : ℕ} {ys ns : List ℕ} {on off base y m : ℕ} where
+  pub force-some : {l : ℕ} → Forcing n ys ns on off base y m → l ≡ diff (union y m) (union on off) → 0 < l
+  force-some f d = left-some d (f .unit)
+
+  pub force-lowest : {l v : ℕ} → Forcing n ys ns on off base y m → l ≡ diff (union y m) (union on off) → Lowest l v → Forces y m on off v
+  force-lowest f d o = lowest-forced d (f .unit) o
+
+  module _ {v c d : ℕ} {value : Bool} (f : Forcing n ys ns on off base y m) (t : Forces y m on off v) (s : Assigned on off v value c d) where
+    pub force-following : Following n ys ns c d base
+    force-following = set-following (f .following .posed) (f .following .base-set) (forced-below (f .implied) t) (t .not-on) (t .not-off) s
+
+    pub force-less : {k : ℕ} → 3 * unset n on off ≡ k → 3 * unset n c d + 2 < k
+    force-less q =
+        omega (arith, unset-less {a = c} {b = d} (f .following .posed) (forced-below (f .implied) t) (t .not-on) (t .not-off) s)
+
+    -- a model
+    pub force-model : {r : Branch} {g : ℕ} → Followed n ys ns c d base r → r ≡ Branch.Model g → Followed n ys ns on off base (Branch.Model g)
+    force-model z q = record { ends = assigned-model s (subst (Followed n ys ns c d base) q z .ends) .0 }
+
+    -- a rule, resolved with the one that forced the variable
+    pub force-failed : {r : Branch} {rule got : Rule} → value ≡ has y v → Followed n ys ns c d base r → r ≡ Branch.Implied rule
+        → Resolved base v (rule .yes) (rule .no) y m (got .yes) (got .no) → Followed n ys ns on off base (Branch.Implied got)
+    force-failed {r} {rule} {got} e z q o = record { ends = (it, o .placed on off c d under) }
+      where
+        failed : Ends n ys ns c d base (Branch.Implied rule)
+        failed = subst (Followed n ys ns c d base) q z .ends
+
+        under : FailedUnder base v (rule .yes) (rule .no) y m on off c d
+        under = record { forces = t; set = rw e at s; base-set = f .following .base-set; placed = failed .1 }
+
+        sizes : (got .yes < 2 ^ n) × (got .no < 2 ^ n)
+        sizes = o .below n (failed .0 .yes-below) (failed .0 .no-below) (f .implied .yes-below) (f .implied .no-below)
+
+        it : Implied n ys ns (got .yes) (got .no)
+        it = record {
+          yes-below = sizes .0;
+          no-below = sizes .1;
+          obeyed = λ g h. o .obeyed on off c d under g (failed .0 .obeyed g h) (f .implied .obeyed g h);
+        }
 
 -- ---- `try_variable`
 
--- a model has the values of the variables that are set
-model-set : {n : ℕ} {ys ns : List ℕ} {on off f : ℕ} → Model n ys ns on off f → (u : ℕ) → bit on u + bit off u ≡ 1 → bit f u ≡ bit on u
-model-set {n} {ys} {ns} {on} {off} {f} m u e = omega (arith, m .keeps .keeps u, m .avoids .avoids u, bit-le f u)
+module _ {n : ℕ} {ys ns : List ℕ} {on off base x : ℕ} where
+  pub try-unset : {v : ℕ} → Trying n ys ns on off base x → Chosen ys ns on off v → Unset n on off v
+  try-unset {v} f c =
+      let p = f .following .posed in
+      record {
+        below = member-lt n (c .among) v (c .member) (c .opened .below n (p .yes-masks) (p .no-masks));
+        not-on = omega (arith, c .member, c .opened .not-set .avoids v, bit-union on off v);
+        not-off = omega (arith, c .member, c .opened .not-set .avoids v, bit-union on off v);
+      }
 
--- each variable is set: there is one filling
-pub try-done : {n : ℕ} {ys ns : List ℕ} {on off prefer s free : ℕ} → Settled n ys ns on off → s ≡ union on off → free ≡ compl n s → free ≡ 0
-    → Searched n ys ns on off prefer (Found on)
-try-done {n} {ys} {ns} {on} {off} {prefer} {s} {free} t p q z =
-    record { found = record { model = it; first = λ f m. rw (alone f m) (omega arith) } }
-  where
-    all : AllSet n on off
-    all = record {
-      set = λ v h.
-          omega (
-            arith,
-            ap (λ (x : ℕ). bit x v) (sym q ∙ z),
-            bit-zero v,
-            bit-compl n s v h,
-            ap (λ (x : ℕ). bit x v) p,
-            bit-union on off v,
-            t .posed .apart .avoids v,
-          );
-    }
+  module _ {v c d s : ℕ} {value : Bool} (f : Trying n ys ns on off base x) (u : Unset n on off v) (a : Assigned on off v value c d) (e : s ≡ union on off) where
+    pub try-following : Following n ys ns c d s
+    try-following = set-following (f .following .posed) (rw e (within-refl (union on off))) (u .below) (u .not-on) (u .not-off) a
 
-    it : Model n ys ns on off on
-    it = record {
-      below = t .posed .on-below;
-      keeps = within-refl on;
-      avoids = apart-symm on off (t .posed .apart);
-      obeyed = t .quiet .still n (t .posed) all;
-    }
+    pub try-less : {k : ℕ} → 3 * unset n on off + 1 ≡ k → 3 * unset n c d + 2 < k
+    try-less q = omega (arith, unset-less {a = c} {b = d} (f .following .posed) (u .below) (u .not-on) (u .not-off) a)
 
-    alone : (f : ℕ) → Model n ys ns on off f → f ≡ on
-    alone f m = ext-below n f on (m .below) (t .posed .on-below) (λ v h. model-set m v (all .set v h))
+    -- a model
+    pub try-model : {r : Branch} {g : ℕ} → Followed n ys ns c d s r → r ≡ Branch.Model g → Followed n ys ns on off base (Branch.Model g)
+    try-model z q = record { ends = assigned-model a (subst (Followed n ys ns c d s) q z .ends) .0 }
 
--- the lowest variable that is not set
-pub try-next : {n : ℕ} {ys ns : List ℕ} {on off s free v : ℕ} → Settled n ys ns on off → s ≡ union on off → free ≡ compl n s → Lowest free v
-    → LowestUnset n on off v
-try-next {n} {ys} {ns} {on} {off} {s} {free} {v} t p q l =
-    let h : v < n = member-lt n free v (l .least .member) (rw q (compl-lt n s)) in
-    let x : bit s v ≡ 0 = omega (arith, l .least .member, ap (λ (y : ℕ). bit y v) q, bit-compl n s v h, bit-le s v) in
-    record {
-      below = h;
-      not-on = omega (arith, ap (λ (y : ℕ). bit y v) p, bit-union on off v);
-      not-off = omega (arith, ap (λ (y : ℕ). bit y v) p, bit-union on off v);
-      before = λ u k.
-          omega (
-            arith,
-            l .least .first u k,
-            ap (λ (y : ℕ). bit y u) q,
-            bit-compl n s u (omega arith),
-            ap (λ (y : ℕ). bit y u) p,
-            bit-union on off u,
-            t .posed .apart .avoids u,
-          );
-    }
+    module _ {r : Branch} {rule : Rule} (z : Followed n ys ns c d s r) (q : r ≡ Branch.Implied rule) where
+      failed : Ends n ys ns c d s (Branch.Implied rule)
+      failed = subst (Followed n ys ns c d s) q z .ends
 
-module _ {n : ℕ} {ys ns : List ℕ} {on off v a b : ℕ} {value : Bool} where
-  pub try-posed : Settled n ys ns on off → LowestUnset n on off v → Assigned on off v value a b → Posed n ys ns a b
-  try-posed t x s = posed-assigned (t .posed) (x .below) (x .not-on) (x .not-off) s
+      acting : Acting (rule .yes) (rule .no) on off
+      acting = tried-acts (u .not-on) (u .not-off) a e (failed .1)
 
-  pub try-less : {t : ℕ} → Settled n ys ns on off → LowestUnset n on off v → Assigned on off v value a b → 2 * unset n on off ≡ t → 2 * unset n a b + 1 < t
-  try-less z x s e = omega (arith, unset-less {a = a} {b = b} (z .posed) (x .below) (x .not-on) (x .not-off) s)
+      -- a rule that is handed up, or acted on here
+      pub try-handed : {b : Bool} → HandedUp base (rule .yes) (rule .no) on off b → b ≡ true → Followed n ys ns on off base (Branch.Implied rule)
+      try-handed h i = record { ends = (failed .0, subst (HandedUp base (rule .yes) (rule .no) on off) i h .said acting) }
 
--- the digit of a value
-digit-has : (m v : ℕ) (b : Bool) → b ≡ has m v → digit b ≡ bit m v
-digit-has m v true e = sym (has-true m v (sym e))
-digit-has m v false e = sym (has-false m v (sym e))
+      pub try-forcing : {b : Bool} → HandedUp base (rule .yes) (rule .no) on off b → b ≡ false → Forcing n ys ns on off base (rule .yes) (rule .no)
+      try-forcing h i =
+          record { following = f .following; implied = failed .0; unit = subst (HandedUp base (rule .yes) (rule .no) on off) i h .said acting }
 
-digit-not : (d : ℕ) (b : Bool) → d ≤ 1 → (d ≡ digit b → ⊥) → d ≡ digit (not b)
-digit-not d true h n = omega arith
-digit-not d false h n = omega arith
+-- the steps of the three functions that call each other
+pub ruleset follow-laws = (posed-posable, follow-conflict, follow-unit, follow-model, follow-trying)
 
-digit-other : (d : ℕ) (b : Bool) → d ≤ 1 → (d ≡ digit b → ⊥) → d + digit b ≡ 1
-digit-other d true h n = omega arith
-digit-other d false h n = omega arith
+pub ruleset force-laws = (force-some, force-lowest, force-following, force-less, force-model, force-failed)
 
--- a model with the preferred value: each model with the other value comes after it
-pub try-preferred : {n : ℕ} {ys ns : List ℕ} {on off v a b prefer m : ℕ} {value : Bool} {r : SearchResult} → LowestUnset n on off v → value ≡ has prefer v
-    → Assigned on off v value a b → Searched n ys ns a b prefer r → r ≡ Found m → Searched n ys ns on off prefer (Found m)
-try-preferred {n} {ys} {ns} {on} {off} {v} {a} {b} {prefer} {m} {value} x p s z e =
-    record { found = record { model = it .0; first = go } }
-  where
-    sub : FirstModel n ys ns a b prefer m
-    sub = subst (Searched n ys ns a b prefer) e z .found
+pub ruleset try-laws = (try-unset, try-following, try-less, try-model, try-handed, try-forcing)
 
-    it : Model n ys ns on off m × (bit m v ≡ digit value)
-    it = assigned-model s (sub .model)
+-- ---- `search`
 
-    go : (f : ℕ) → Model n ys ns on off f → rank n prefer m ≤ rank n prefer f
-    go f h =
-        by-cases (ℕ-discrete (bit f v) (digit value)) (λ d. sub .first f (model-assigned s h d))
-        (λ d.
-        omega (
-          arith,
-          rank-first n prefer m f v (x .below) (λ u k. model-set (it .0) u (x .before u k) ∙ sym (model-set h u (x .before u k)))
-              (it .1 ∙ digit-has prefer v value p)
-              (omega (arith, digit-other (bit f v) value (bit-le f v) d, digit-has prefer v value p)),
-        ))
+module _ {n : ℕ} {ys ns : List ℕ} {on off : ℕ} where
+  pub search-start : Posed n ys ns on off → Keeps n ys ns on off on off
+  search-start p = record { posed = p; forth = λ f m. m; back = λ f m. m }
 
--- none with the preferred value: the models are those with the other
-pub try-other : {n : ℕ} {ys ns : List ℕ} {on off v a b c d prefer : ℕ} {value other : Bool} {q r : SearchResult} → Assigned on off v value a b
-    → Searched n ys ns a b prefer q → q ≡ Nothing → Assigned on off v other c d → other ≡ not value → Searched n ys ns c d prefer r
-    → Searched n ys ns on off prefer r
-try-other {n} {ys} {ns} {on} {off} {v} {a} {b} {c} {d} {prefer} {value} {other} {q} {r} s y e t p z = record { found = go r (z .found) }
-  where
-    gone : NoModel n ys ns a b
-    gone = subst (Searched n ys ns a b prefer) e y .found
+  module _ {a b base : ℕ} where
+    pub search-following : Keeps n ys ns on off a b → base ≡ union a b → Following n ys ns a b base
+    search-following k e = record { posed = k .posed; base-set = rw e (within-refl (union a b)) }
 
-    same : (f : ℕ) → Model n ys ns on off f → Model n ys ns c d f
-    same f m =
-        by-cases (ℕ-discrete (bit f v) (digit value)) (λ k. absurd (gone .none f (model-assigned s m k)))
-        (λ k. model-assigned t m (digit-not (bit f v) value (bit-le f v) k ∙ sym (ap digit p)))
+    module _ {r : Branch} (k : Keeps n ys ns on off a b) (z : Followed n ys ns a b base r) where
+      -- a model
+      pub search-model : {f : ℕ} → r ≡ Branch.Model f → Searched n ys ns on off (Found f)
+      search-model {f} q = record { found = k .back f (subst (Followed n ys ns a b base) q z .ends) }
 
-    go : (o : SearchResult) → Finds n ys ns c d prefer o → Finds n ys ns on off prefer o
-    go (Found m) x = record { model = assigned-model t (x .model) .0; first = λ f h. x .first f (same f h) }
-    go Nothing x = record { none = λ f h. x .none f (same f h) }
+      module _ {rule : Rule} {l : ℕ} (q : r ≡ Branch.Implied rule) (d : l ≡ diff (union (rule .yes) (rule .no)) (union a b)) where
+        implied : Implied n ys ns (rule .yes) (rule .no)
+        implied = subst (Followed n ys ns a b base) q z .ends .0
 
--- the steps of `follow`, and of `try_variable`
-pub ruleset follow-laws = (follow-clash, extended-posed, extended-less, extended-found, done-settled)
+        acting-here : Acting (rule .yes) (rule .no) a b
+        acting-here = placed-acts (subst (Followed n ys ns a b base) q z .ends .1)
 
-pub ruleset try-laws = (try-done, try-next, try-posed, try-less, try-preferred, try-other)
+        -- a conflict
+        pub search-none : l ≡ 0 → Searched n ys ns on off Nothing
+        search-none e = record { found = record { none = λ f m. conflict-none implied (k .forth f m) (none-left d acting-here e) } }
+
+        -- one more variable
+        module _ {v c g : ℕ} {value : Bool} (e : l ≢ 0) (o : Lowest l v) (h : value ≡ has (rule .yes) v) (s : Assigned a b v value c g) where
+          forces-here : Forces (rule .yes) (rule .no) a b v
+          forces-here = lowest-forced d (some-left d acting-here e) o
+
+          pub search-forced : Keeps n ys ns on off c g
+          search-forced =
+              record {
+                posed = posed-assigned (k .posed) (forced-below implied forces-here) (forces-here .not-on) (forces-here .not-off) s;
+                forth = λ f m.
+                    let i = k .forth f m in
+                    model-assigned s i (forced-value implied i v forces-here ∙ sym (digit-has (rule .yes) v value h));
+                back = λ f m. k .back f (assigned-model s m .0);
+              }
+
+          pub search-less : unset n c g < unset n a b
+          search-less =
+              omega (arith, unset-less {a = c} {b = g} (k .posed) (forced-below implied forces-here) (forces-here .not-on) (forces-here .not-off) s)
+
+pub ruleset search-laws = (search-start, search-following, search-model, search-none, search-forced, search-less)
 
 -- ---- what a caller reads of the answer
 
-module _ {n : ℕ} {ys ns : List ℕ} {on off prefer : ℕ} {r : SearchResult} where
-  pub searched-first : {m : ℕ} → Searched n ys ns on off prefer r → r ≡ Found m → FirstModel n ys ns on off prefer m
-  searched-first s e = subst (Searched n ys ns on off prefer) e s .found
+module _ {n : ℕ} {ys ns : List ℕ} {on off : ℕ} {r : SearchResult} where
+  pub searched-model : {m : ℕ} → Searched n ys ns on off r → r ≡ Found m → Model n ys ns on off m
+  searched-model s e = subst (Searched n ys ns on off) e s .found
 
-  pub searched-none : Searched n ys ns on off prefer r → r ≡ Nothing → NoModel n ys ns on off
-  searched-none s e = subst (Searched n ys ns on off prefer) e s .found
-
--- there is one answer
-pub searched-unique : {n : ℕ} {ys ns : List ℕ} {on off prefer : ℕ} {q r : SearchResult} → Searched n ys ns on off prefer q
-    → Searched n ys ns on off prefer r → q ≡ r
-searched-unique {n} {ys} {ns} {on} {off} {prefer} {q} {r} a b = go q r (a .found) (b .found)
-  where
-    go : (x y : SearchResult) → Finds n ys ns on off prefer x → Finds n ys ns on off prefer y → x ≡ y
-    go (Found m) (Found k) s t = ap Found (first-unique s t)
-    go (Found m) Nothing s t = absurd (t .none m (s .model))
-    go Nothing (Found k) s t = absurd (s .none k (t .model))
-    go Nothing Nothing s t = refl
+  pub searched-none : Searched n ys ns on off r → r ≡ Nothing → NoModel n ys ns on off
+  searched-none s e = subst (Searched n ys ns on off) e s .found

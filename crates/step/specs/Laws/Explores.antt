@@ -15,7 +15,7 @@ use Rattle.sets.specs.Laws.Subset.{within-trans, within-le, disjoint-apart, dis
 use Rattle.sat.specs.Meaning.{Model}
 use Rattle.sat.specs.Contracts.{Posed, digit, Assigned, Searched}
 use Rattle.sat.specs.Laws.Assigns.{model-assigned, assigned-model, posed-assigned}
-use Rattle.sat.specs.Laws.Searches.{searched-first, searched-none}
+use Rattle.sat.specs.Laws.Searches.{searched-model, searched-none}
 use Rattle.sat.specs.declared.SearchResult.{SearchResult}
 use Rattle.sat.specs.declared.SearchResult.the-variants.{Found as LeastFound, Nothing}
 use Rattle.book.specs.Limits.{maxChoices}
@@ -158,16 +158,16 @@ module _ {n : ℕ} {ys ns ws : List ℕ} {aim : Aim} {part : Part} where
   pub explore-posed : {on off : ℕ} → Exploring n ys ns ws aim part → Against aim (part .chosen) on off → Posed n ys ns on off
   explore-posed x a = rw (a .on-said, a .off-said) (aim-posed aim (part .chosen) (x .sought .posed) (x .sought .goal-below) (x .sought .not-on) (x .sought .not-off))
 
-  pub explore-hit : {best here on off prefer : ℕ} {r : SearchResult} → Exploring n ys ns ws aim part → here ≡ keyOf (part .cost) (aim .goal) (part .chosen)
-      → here < best → Against aim (part .chosen) on off → Searched n ys ns on off prefer r → r ≡ Nothing → Explored n ys ns ws aim part best here
+  pub explore-hit : {best here on off : ℕ} {r : SearchResult} → Exploring n ys ns ws aim part → here ≡ keyOf (part .cost) (aim .goal) (part .chosen)
+      → here < best → Against aim (part .chosen) on off → Searched n ys ns on off r → r ≡ Nothing → Explored n ys ns ws aim part best here
   explore-hit {best} {here} x e h a s d =
       let none : Refutes n ys ns aim (part .chosen) = rw (a .on-said, a .off-said) at (searched-none s d) in
       rw (here-key {here = here} x e) (record { cheapest = hit (key-rises n ws aim) (x .nested) none (omega (arith, here-key {here = here} x e)) })
 
-  pub explore-branching : {on off prefer m w : ℕ} {r : SearchResult} → Exploring n ys ns ws aim part → Against aim (part .chosen) on off
-      → Searched n ys ns on off prefer r → r ≡ LeastFound m → w ≡ deniedBy (aim .on) (aim .off) m → Branching n ys ns ws aim part w
+  pub explore-branching : {on off m w : ℕ} {r : SearchResult} → Exploring n ys ns ws aim part → Against aim (part .chosen) on off
+      → Searched n ys ns on off r → r ≡ LeastFound m → w ≡ deniedBy (aim .on) (aim .off) m → Branching n ys ns ws aim part w
   explore-branching {m = m} x a s d e =
-      record { exploring = x; hits = rw e (witness n ys ns aim (part .chosen) (part .limit) m (rw (a .on-said, a .off-said) at (searched-first s d .model))) }
+      record { exploring = x; hits = rw e (witness n ys ns aim (part .chosen) (part .limit) m (rw (a .on-said, a .off-said) at (searched-model s d))) }
 
   -- ---- `branch`
 

@@ -1,0 +1,232 @@
+-- The proof of the cycle of calls {follow, force, try_variable}, by the laws of the search. With k variables not set the measure is 3k + 2 for
+-- `follow`, 3k + 1 for `try_variable` and 3k for `force`: a call sets a variable, or goes from `follow` to the others or from `try_variable`
+-- to `force`. Assumes nothing.
+use Prim.Native.Nat.{ℕ, _+_, _*_, _<_}
+use borrow.Author.Needs.{needs}
+use Rattle.sat.specs.Contracts.{unset}
+use Rattle.sat.specs.Laws.Searches.{follow-laws, force-laws, force-lowest, force-failed, try-laws, try-unset, try-forcing}
+use borrow.Fn.Kinds.{In}
+use borrow.Fn.PlainCycle.{Measures, is, falls, and}
+use Rattle.sat.proofs.follow.Reads as follow
+use Rattle.sat.proofs.follow.Kinds as follow-kinds
+use Rattle.sat.proofs.+follow+force+try_variable.Lts-follow as follow-lts
+use Rattle.sat.proofs.force.Reads as force
+use Rattle.sat.proofs.force.Kinds as force-kinds
+use Rattle.sat.proofs.+follow+force+try_variable.Lts-force as force-lts
+use Rattle.sat.proofs.try_variable.Reads as try-variable
+use Rattle.sat.proofs.try_variable.Kinds as try-variable-kinds
+use Rattle.sat.proofs.+follow+force+try_variable.Lts-try_variable as try-variable-lts
+use Rattle.sat.proofs.assign.Reads as assign-reads
+use Rattle.sat.proofs.choose.Reads as choose-reads
+use Rattle.sat.proofs.complete.Reads as complete-reads
+use Rattle.sat.proofs.handed_up.Reads as handed-up-reads
+use Rattle.sat.proofs.resolve.Reads as resolve-reads
+use Rattle.sat.proofs.scan.Reads as scan-reads
+use Rattle.sat.proofs.unset_of.Reads as unset-of-reads
+use Rattle.sets.proofs.has.Reads as has-reads
+use Rattle.sets.proofs.lowest.Reads as lowest-reads
+use Rattle.sets.proofs.union.Reads as union-reads
+use Rattle.sat.proofs.+follow+force+try_variable.{statement}
+use Rattle.sat.proofs.+follow+force+try_variable.Tie.{close}
+
+abbrev μ-follow : Measures 2 follow-kinds.ps ℕ
+μ-follow κs a = 3 * unset (a .0) (a .1 .1 .1 .0 .on) (a .1 .1 .1 .0 .off) + 2
+
+abbrev μ-force : Measures 2 force-kinds.ps ℕ
+μ-force κs a = 3 * unset (a .0) (a .1 .1 .1 .0 .on) (a .1 .1 .1 .0 .off)
+
+abbrev μ-try-variable : Measures 2 try-variable-kinds.ps ℕ
+μ-try-variable κs a = 3 * unset (a .0) (a .1 .1 .1 .0 .on) (a .1 .1 .1 .0 .off) + 1
+
+abbrev follow-at : ℕ → In 2 follow-kinds.ps
+follow-at t = and 2 follow-kinds.ps (is 2 follow-kinds.ps μ-follow t) follow.Pre
+
+abbrev follow-below : ℕ → In 2 follow-kinds.ps
+follow-below t = and 2 follow-kinds.ps (falls 2 follow-kinds.ps _<_ μ-follow t) follow.Pre
+
+abbrev force-at : ℕ → In 2 force-kinds.ps
+force-at t = and 2 force-kinds.ps (is 2 force-kinds.ps μ-force t) force.Pre
+
+abbrev force-below : ℕ → In 2 force-kinds.ps
+force-below t = and 2 force-kinds.ps (falls 2 force-kinds.ps _<_ μ-force t) force.Pre
+
+abbrev try-variable-at : ℕ → In 2 try-variable-kinds.ps
+try-variable-at t =
+    and 2 try-variable-kinds.ps (is 2 try-variable-kinds.ps μ-try-variable t) try-variable.Pre
+
+abbrev try-variable-below : ℕ → In 2 try-variable-kinds.ps
+try-variable-below t =
+    and
+    2
+    try-variable-kinds.ps
+    (falls 2 try-variable-kinds.ps _<_ μ-try-variable t)
+    try-variable.Pre
+
+-- what the callees of `follow` ask and say
+abbrev follow-claims : ℕ → follow-lts.Claims
+follow-claims t = (scan-reads.Asked, scan-reads.Learnt, force-below t, force.Post, complete-reads.Asked, complete-reads.Learnt, try-variable-below t, try-variable.Post)
+
+-- what the callees of `force` ask and say
+abbrev force-claims : ℕ → force-lts.Claims
+force-claims t = (unset-of-reads.Asked, unset-of-reads.Learnt, lowest-reads.Asked, lowest-reads.Learnt, has-reads.Asked, has-reads.Learnt, assign-reads.Asked, assign-reads.Learnt, follow-below t, follow.Post, resolve-reads.Asked, resolve-reads.Learnt)
+
+-- what the callees of `try-variable` ask and say
+abbrev try-variable-claims : ℕ → try-variable-lts.Claims
+try-variable-claims t = (choose-reads.Asked, choose-reads.Learnt, has-reads.Asked, has-reads.Learnt, assign-reads.Asked, assign-reads.Learnt, union-reads.Asked, union-reads.Learnt, follow-below t, follow.Post, handed-up-reads.Asked, handed-up-reads.Learnt, force-below t, force.Post)
+
+follow-scan-requires : (t : ℕ) → follow-lts.Need-scan-requires (follow-claims t) (follow-at t) follow.Post
+follow-scan-requires t c κs = search (needs, follow-laws)
+
+follow-enum-known-rule : (t : ℕ) → follow-lts.Need-enum-known-rule (follow-claims t) (follow-at t) follow.Post
+follow-enum-known-rule t c = search (needs, follow-laws)
+
+follow-enum-known-rule-2 : (t : ℕ) → follow-lts.Need-enum-known-rule-2 (follow-claims t) (follow-at t) follow.Post
+follow-enum-known-rule-2 t c = search (needs, follow-laws)
+
+follow-force-requires : (t : ℕ) → follow-lts.Need-force-requires (follow-claims t) (follow-at t) follow.Post
+follow-force-requires t c κs = search (needs, follow-laws)
+
+follow-enum-known-pending : (t : ℕ) → follow-lts.Need-enum-known-pending (follow-claims t) (follow-at t) follow.Post
+follow-enum-known-pending t c = search (needs, follow-laws)
+
+follow-complete-requires : (t : ℕ) → follow-lts.Need-complete-requires (follow-claims t) (follow-at t) follow.Post
+follow-complete-requires t c κs = search (needs, follow-laws)
+
+follow-returns : (t : ℕ) → follow-lts.Need-returns (follow-claims t) (follow-at t) follow.Post
+follow-returns t c = search (needs, follow-laws)
+
+follow-try-variable-requires : (t : ℕ) → follow-lts.Need-try-variable-requires (follow-claims t) (follow-at t) follow.Post
+follow-try-variable-requires t c κs = search (needs, follow-laws)
+
+follow-returns-2 : (t : ℕ) → follow-lts.Need-returns-2 (follow-claims t) (follow-at t) follow.Post
+follow-returns-2 t c = search (needs, follow-laws)
+
+follow-returns-3 : (t : ℕ) → follow-lts.Need-returns-3 (follow-claims t) (follow-at t) follow.Post
+follow-returns-3 t c = search (needs, follow-laws)
+
+follow-returns-4 : (t : ℕ) → follow-lts.Need-returns-4 (follow-claims t) (follow-at t) follow.Post
+follow-returns-4 t c = search (needs, follow-laws)
+
+force-unset-of-requires : (t : ℕ) → force-lts.Need-unset-of-requires (force-claims t) (force-at t) force.Post
+force-unset-of-requires t c κs = search (needs, force-laws)
+
+force-lowest-requires : (t : ℕ) → force-lts.Need-lowest-requires (force-claims t) (force-at t) force.Post
+force-lowest-requires t c κs = search (needs, force-laws)
+
+force-has-requires : (t : ℕ) → force-lts.Need-has-requires (force-claims t) (force-at t) force.Post
+force-has-requires t c κs = search (needs, force-laws)
+
+force-assign-requires : (t : ℕ) → force-lts.Need-assign-requires (force-claims t) (force-at t) force.Post
+force-assign-requires t c κs = search (needs, force-laws)
+
+force-follow-requires : (t : ℕ) → force-lts.Need-follow-requires (force-claims t) (force-at t) force.Post
+force-follow-requires t c κs = search (needs, force-laws)
+
+force-enum-known-m : (t : ℕ) → force-lts.Need-enum-known-m (force-claims t) (force-at t) force.Post
+force-enum-known-m t c = search (needs, force-laws)
+
+force-enum-known-rule : (t : ℕ) → force-lts.Need-enum-known-rule (force-claims t) (force-at t) force.Post
+force-enum-known-rule t c = search (needs, force-laws)
+
+force-resolve-requires : (t : ℕ) → force-lts.Need-resolve-requires (force-claims t) (force-at t) force.Post
+force-resolve-requires t c κs = search (needs, force-laws)
+
+force-returns : (t : ℕ) → force-lts.Need-returns (force-claims t) (force-at t) force.Post
+force-returns t c = search (needs, force-laws)
+
+force-returns-2 : (t : ℕ) → force-lts.Need-returns-2 (force-claims t) (force-at t) force.Post
+force-returns-2 t c =
+    let q = c .before .before .before .before in
+    let l = q .before .before .before in
+    let f = l .before .before .before .before .pre .1 in
+    force-failed f (force-lowest f (l .before .unset-of .ensures) (l .lowest .ensures)) (q .before .assign .ensures) (q .before .before .has .ensures) (q .follow .ensures)
+    (c .before .before .rule .given .1) (c .resolve .ensures)
+
+try-variable-choose-requires : (t : ℕ) → try-variable-lts.Need-choose-requires (try-variable-claims t) (try-variable-at t) try-variable.Post
+try-variable-choose-requires t c κs = search (needs, try-laws)
+
+try-variable-has-requires : (t : ℕ) → try-variable-lts.Need-has-requires (try-variable-claims t) (try-variable-at t) try-variable.Post
+try-variable-has-requires t c κs = search (needs, try-laws)
+
+try-variable-assign-requires : (t : ℕ) → try-variable-lts.Need-assign-requires (try-variable-claims t) (try-variable-at t) try-variable.Post
+try-variable-assign-requires t c κs = search (needs, try-laws)
+
+try-variable-union-requires : (t : ℕ) → try-variable-lts.Need-union-requires (try-variable-claims t) (try-variable-at t) try-variable.Post
+try-variable-union-requires t c κs = search (needs, try-laws)
+
+try-variable-follow-requires : (t : ℕ) → try-variable-lts.Need-follow-requires (try-variable-claims t) (try-variable-at t) try-variable.Post
+try-variable-follow-requires t c κs = search (needs, try-laws)
+
+try-variable-enum-known-m : (t : ℕ) → try-variable-lts.Need-enum-known-m (try-variable-claims t) (try-variable-at t) try-variable.Post
+try-variable-enum-known-m t c = search (needs, try-laws)
+
+try-variable-enum-known-rule : (t : ℕ) → try-variable-lts.Need-enum-known-rule (try-variable-claims t) (try-variable-at t) try-variable.Post
+try-variable-enum-known-rule t c = search (needs, try-laws)
+
+try-variable-handed-up-requires : (t : ℕ) → try-variable-lts.Need-handed-up-requires (try-variable-claims t) (try-variable-at t) try-variable.Post
+try-variable-handed-up-requires t c κs = search (needs, try-laws)
+
+try-variable-returns : (t : ℕ) → try-variable-lts.Need-returns (try-variable-claims t) (try-variable-at t) try-variable.Post
+try-variable-returns t c = search (needs, try-laws)
+
+try-variable-force-requires : (t : ℕ) → try-variable-lts.Need-force-requires (try-variable-claims t) (try-variable-at t) try-variable.Post
+try-variable-force-requires t c κs =
+    let q = c .before .before .before .before .before in
+    let v = q .before .before .before .before in
+    let f = v .before .before .before .pre .1 in (
+      search needs,
+      try-forcing f (try-unset f (v .choose .ensures)) (q .before .before .assign .ensures) (q .before .union .ensures) (q .follow .ensures)
+          (c .before .before .before .rule .given .1)
+          (c .before .handed-up .ensures)
+          (c .if1 .left),
+    )
+
+try-variable-returns-2 : (t : ℕ) → try-variable-lts.Need-returns-2 (try-variable-claims t) (try-variable-at t) try-variable.Post
+try-variable-returns-2 t c = search (needs, try-laws)
+
+try-variable-returns-3 : (t : ℕ) → try-variable-lts.Need-returns-3 (try-variable-claims t) (try-variable-at t) try-variable.Post
+try-variable-returns-3 t c = search (needs, try-laws)
+
+pub +follow+force+try-variable-spec : {M : Type 1} → statement M
++follow+force+try-variable-spec = close μ-follow μ-force μ-try-variable (λ t. follow-lts.spec (follow-claims t)
+    (follow-at t)
+    follow.Post
+    (follow-scan-requires t)
+    (follow-enum-known-rule t)
+    (follow-enum-known-rule-2 t)
+    (follow-force-requires t)
+    (follow-enum-known-pending t)
+    (follow-complete-requires t)
+    (follow-returns t)
+    (follow-try-variable-requires t)
+    (follow-returns-2 t)
+    (follow-returns-3 t)
+    (follow-returns-4 t))
+    (λ t. force-lts.spec (force-claims t)
+    (force-at t)
+    force.Post
+    (force-unset-of-requires t)
+    (force-lowest-requires t)
+    (force-has-requires t)
+    (force-assign-requires t)
+    (force-follow-requires t)
+    (force-enum-known-m t)
+    (force-enum-known-rule t)
+    (force-resolve-requires t)
+    (force-returns t)
+    (force-returns-2 t))
+    λ t. try-variable-lts.spec (try-variable-claims t)
+    (try-variable-at t)
+    try-variable.Post
+    (try-variable-choose-requires t)
+    (try-variable-has-requires t)
+    (try-variable-assign-requires t)
+    (try-variable-union-requires t)
+    (try-variable-follow-requires t)
+    (try-variable-enum-known-m t)
+    (try-variable-enum-known-rule t)
+    (try-variable-handed-up-requires t)
+    (try-variable-returns t)
+    (try-variable-force-requires t)
+    (try-variable-returns-2 t)
+    (try-variable-returns-3 t)

@@ -1,0 +1,392 @@
+-- Rules that the rules imply, and where they stand: what search.md calls implied, place and top. Over any number of variables and any rules,
+-- those with a variable in both masks and the empty rule included. Assumes nothing.
+use mathlib.Core.Path.{_≡_, refl, sym, ap, _∙_}
+use mathlib.Core.Logic.{_≢_, _⊎_, inl, inr, by-cases}
+use mathlib.Core.Bool.{Bool, true, false}
+use mathlib.Core.List.{List}
+use Prim.Native.Nat.{ℕ, _+_, _≤_, _<_}
+use native.Mathlib.Decide.{ℕ-discrete}
+use native.Mathlib.Omega.{arith}
+use Rattle.sets.specs.Sets.{bit, has, union, diff, remove, subset, Within, Lowest}
+use Rattle.sets.specs.Laws.Bits.{bit-le, bit-zero, bit-union, bit-diff, bit-remove-same, bit-remove-other, union-lt, remove-lt, pos-of-member, ext}
+use Rattle.sets.specs.Laws.Subset.{subset-within, in-union}
+use Rattle.literals.specs.Truth.{obeysMasks}
+use Rattle.literals.specs.Laws.{TrueLiteral, obeys-yes, obeys-no, obeys-some}
+use Rattle.sat.specs.Meaning.{Model}
+use Rattle.sat.specs.Contracts.{Posed, Assigned, Conflicts, Forces, ForcesOne, Listed, Implied, Stands, Placed, Acts, Acting, Hands, HandedUp, FailedUnder, Resolved}
+use Rattle.sat.specs.Laws.Rules.{obeys-at}
+use Rattle.sat.specs.Laws.Assigns.{digit-has, assigned-other, assigned-same}
+
+-- ---- implied
+
+-- a literal of the rule (y, m) at variable u is true in f
+abbrev TrueAt : ℕ → ℕ → ℕ → ℕ → Type 0
+TrueAt f y m u = ((bit y u ≡ 1) × (bit f u ≡ 1)) ⊎ ((bit m u ≡ 1) × (bit f u ≡ 0))
+
+-- a rule obeyed by another literal than one of v keeps being obeyed without v, and with more literals
+kept : (f y m c d v u : ℕ) → u ≢ v → bit y u ≤ bit c u → bit m u ≤ bit d u → TrueAt f y m u → obeysMasks f (remove c v) (remove d v) ≡ true
+kept f y m c d v u n p q (inl t) = obeys-yes f _ _ u (omega (arith, t .0, bit-remove-other c v u n, bit-le c u)) (t .1)
+kept f y m c d v u n p q (inr t) = obeys-no f _ _ u (omega (arith, t .0, bit-remove-other d v u n, bit-le d u)) (t .1)
+
+-- a literal of v is not true
+other : (f y m v u : ℕ) → (TrueAt f y m v → ⊥) → TrueAt f y m u → u ≢ v
+other f y m v u n t e = n (rw (sym e) t)
+
+-- resolution: where v stands in (y, m) at most as a no and in (a, b) at most as a yes, what obeys both obeys all their literals but those of v
+module _ (f y m a b c d v : ℕ) (yc : Within y c) (ac : Within a c) (md : Within m d) (bd : Within b d) where
+  pub resolvent : bit y v ≡ 0 → bit b v ≡ 0 → obeysMasks f y m ≡ true → obeysMasks f a b ≡ true → obeysMasks f (remove c v) (remove d v) ≡ true
+  resolvent k l p q = by-cases (ℕ-discrete (bit f v) 1) yes-value no-value
+    where
+      first : (v : ℕ) × TrueLiteral f y m v
+      first = obeys-some f y m p
+
+      second : (v : ℕ) × TrueLiteral f a b v
+      second = obeys-some f a b q
+
+      not-first : bit f v ≡ 1 → TrueAt f y m v → ⊥
+      not-first e (inl t) = omega (arith, t .0)
+      not-first e (inr t) = omega (arith, t .1)
+
+      not-second : bit f v ≢ 1 → TrueAt f a b v → ⊥
+      not-second e (inl t) = e (t .1)
+      not-second e (inr t) = omega (arith, t .0)
+
+      yes-value : bit f v ≡ 1 → obeysMasks f (remove c v) (remove d v) ≡ true
+      yes-value e =
+          kept f y m c d v (first .0) (other f y m v (first .0) (not-first e) (first .1 .truly)) (yc .keeps (first .0)) (md .keeps (first .0))
+          (first .1 .truly)
+
+      no-value : bit f v ≢ 1 → obeysMasks f (remove c v) (remove d v) ≡ true
+      no-value e =
+          kept f a b c d v (second .0) (other f a b v (second .0) (not-second e) (second .1 .truly)) (ac .keeps (second .0)) (bd .keeps (second .0))
+          (second .1 .truly)
+
+-- ---- place
+
+-- what stands in one of two masks
+in-either : (y m u : ℕ) → bit y u + bit m u ≡ 1 → bit (union y m) u ≡ 1
+in-either y m u e = omega (arith, bit-union y m u, bit-le y u, bit-le m u)
+
+-- the rule of a failed branch, where v, set last, is unset again: it stands as before, or it forces v
+module _ (base y m on off v c d : ℕ) {value : Bool} (x : bit on v ≡ 0) (z : bit off v ≡ 0) (s : Assigned on off v value c d) (k : bit base v ≡ 0) where
+  abbrev Back : Type 0
+  Back = Conflicts y m on off ⊎ ((u : ℕ) × Forces y m on off u × ((u ≡ v) ⊎ Within (remove (union y m) u) base))
+
+  -- what is false with v set is false without, but for v
+  yes-back : (u : ℕ) → u ≢ v → bit y u ≤ bit d u → bit y u ≤ bit off u
+  yes-back u n h = omega (arith, assigned-other s u n .1)
+
+  no-back : (u : ℕ) → u ≢ v → bit m u ≤ bit c u → bit m u ≤ bit on u
+  no-back u n h = omega (arith, assigned-other s u n .0)
+
+  -- a conflict that does not name v, and one that does
+  conflict-stays : Conflicts y m c d → bit (union y m) v ≡ 0 → Conflicts y m on off
+  conflict-stays t e =
+      record {
+        yes-false = record {
+          keeps = λ u. by-cases (ℕ-discrete u v) (λ q. rw q (omega (arith, bit-union y m v))) (λ q. yes-back u q (t .yes-false .keeps u));
+        };
+        no-false = record {
+          keeps = λ u. by-cases (ℕ-discrete u v) (λ q. rw q (omega (arith, bit-union y m v))) (λ q. no-back u q (t .no-false .keeps u));
+        };
+      }
+
+  conflict-forces : Conflicts y m c d → bit (union y m) v ≢ 0 → Forces y m on off v
+  conflict-forces t e =
+      record {
+        not-on = x;
+        not-off = z;
+        one-sign = omega (arith, bit-union y m v, t .yes-false .keeps v, t .no-false .keeps v, assigned-same s x z .1);
+        yes-false = λ u q. yes-back u q (t .yes-false .keeps u);
+        no-false = λ u q. no-back u q (t .no-false .keeps u);
+      }
+
+  -- a rule within base but for u: v is not in it
+  module _ (u : ℕ) (t : Forces y m c d u) (w : Within (remove (union y m) u) base) where
+    not-last : v ≢ u
+    not-last e = omega (arith, assigned-same s x z .1, rw (sym e) at (t .not-on), rw (sym e) at (t .not-off))
+
+    absent : bit (union y m) v ≡ 0
+    absent = omega (arith, bit-remove-other (union y m) u v not-last, w .keeps v)
+
+    forces-stays : Forces y m on off u
+    forces-stays =
+        record {
+          not-on = sym (assigned-other s u (λ e. not-last (sym e)) .0) ∙ t .not-on;
+          not-off = sym (assigned-other s u (λ e. not-last (sym e)) .1) ∙ t .not-off;
+          one-sign = t .one-sign;
+          yes-false = λ a q.
+              by-cases (ℕ-discrete a v) (λ e. rw e (omega (arith, absent, bit-union y m v))) (λ e. yes-back a e (t .yes-false a q));
+          no-false = λ a q.
+              by-cases (ℕ-discrete a v) (λ e. rw e (omega (arith, absent, bit-union y m v))) (λ e. no-back a e (t .no-false a q));
+        }
+
+  back : Stands base y m c d → Back
+  back (inl t) =
+      by-cases (ℕ-discrete (bit (union y m) v) 0) (λ e. inl (conflict-stays t e)) (λ e. inr (v, conflict-forces t e, inl refl))
+  back (inr t) = inr (t .0, forces-stays (t .0) (t .1) (t .2), inr (t .2))
+
+-- ---- `resolve`
+
+-- what a failed branch says, with v unset again
+module _ {base v y m a b on off e g : ℕ} (t : FailedUnder base v y m a b on off e g) where
+  base-clear : bit base v ≡ 0
+  base-clear = omega (arith, t .base-set .keeps v, bit-union on off v, t .forces .not-on, t .forces .not-off)
+
+  came-back : Back base y m on off v e g (t .forces .not-on) (t .forces .not-off) (t .set) base-clear
+  came-back = back base y m on off v e g (t .forces .not-on) (t .forces .not-off) (t .set) base-clear (t .placed .place)
+
+  -- the value that was set is the one that (a, b) asks for
+  set-yes : bit e v ≡ bit a v
+  set-yes = assigned-same (t .set) (t .forces .not-on) (t .forces .not-off) .0 ∙ digit-has a v (has a v) refl
+
+  set-no : bit g v ≡ bit b v
+  set-no = omega (arith, set-yes, assigned-same (t .set) (t .forces .not-on) (t .forces .not-off) .1, t .forces .one-sign)
+
+  -- where v stands in the rule, the rule is a conflict
+  conflict-there : bit (union y m) v ≢ 0 → Conflicts y m e g
+  conflict-there n = go (t .placed .place)
+    where
+      go : Stands base y m e g → Conflicts y m e g
+      go (inl q) = q
+      go (inr q) = absurd (n (absent base y m on off v e g (t .forces .not-on) (t .forces .not-off) (t .set) base-clear (q .0) (q .1) (q .2)))
+
+-- what leaves the set when v does stands in it
+named : (w v : ℕ) {x : ℕ} → remove w v ≢ w → w ≡ x → bit x v ≢ 0
+named w v n p e =
+    n (ext (remove w v) w (λ u.
+    by-cases (ℕ-discrete u v) (λ i. rw i (omega (arith, bit-remove-same w v, ap (λ (z : ℕ). bit z v) p, e))) (λ i. bit-remove-other w v u i)))
+
+-- the rule is handed on as it is: where v is not in it, or its others are in base
+module _ {base v y m a b : ℕ} where
+  same-rule : ((on off e g : ℕ) → FailedUnder base v y m a b on off e g → Placed base y m on off) → Resolved base v y m a b y m
+  same-rule p = record { below = λ n h k i j. (h, k); obeyed = λ on off e g t f h k. h; placed = p }
+
+  pub resolve-absent : {w r : ℕ} → w ≡ union y m → r ≡ remove w v → r ≡ w → Resolved base v y m a b y m
+  resolve-absent {w} {r} p q e = same-rule (λ on off c d t. record { place = go (came-back t) })
+    where
+      gone : bit (union y m) v ≡ 0
+      gone = ap (λ (i : ℕ). bit i v) (sym (sym q ∙ e ∙ p)) ∙ bit-remove-same w v
+
+      go : {on off : ℕ} → Conflicts y m on off ⊎ ((u : ℕ) × Forces y m on off u × ((u ≡ v) ⊎ Within (remove (union y m) u) base)) → Stands base y m on off
+      go (inl t) = inl t
+      go (inr (u, t, inl i)) = absurd (omega (arith, gone, in-either y m v (rw i at (t .one-sign))))
+      go (inr (u, t, inr i)) = inr (u, t, i)
+
+  pub resolve-above : {w r : ℕ} {t : Bool} → w ≡ union y m → r ≡ remove w v → t ≡ subset r base → t ≡ true → Resolved base v y m a b y m
+  resolve-above {w} {r} p q i j = same-rule (λ on off c d t. record { place = go (came-back t) })
+    where
+      above : Within (remove (union y m) v) base
+      above = rw (q, p) at (subset-within r base (sym i ∙ j))
+
+      go : {on off : ℕ} → Conflicts y m on off ⊎ ((u : ℕ) × Forces y m on off u × ((u ≡ v) ⊎ Within (remove (union y m) u) base)) → Stands base y m on off
+      go (inl t) = inl t
+      go (inr (u, t, inl i)) = inr (v, rw i at t, above)
+      go (inr (u, t, inr i)) = inr (u, t, i)
+
+  both : {c d : ℕ} → c ≡ remove (union y a) v → d ≡ remove (union m b) v → bit (union y m) v ≢ 0 → Resolved base v y m a b c d
+  both {c} {d} p q n =
+      rw (p, q) (record {
+        below = λ k h i j l. (remove-lt k _ v (union-lt k y a h j), remove-lt k _ v (union-lt k m b i l));
+        obeyed = λ on off e g t f h k. sound t (conflict-there t n) f h k;
+        placed = λ on off e g t. record { place = inl (false-there t (conflict-there t n)) };
+      })
+    where
+      yes-in : Within y (union y a)
+      yes-in = in-union y a
+
+      no-in : Within m (union m b)
+      no-in = in-union m b
+
+      yes-too : Within a (union y a)
+      yes-too = record { keeps = λ u. omega (arith, bit-union y a u) }
+
+      no-too : Within b (union m b)
+      no-too = record { keeps = λ u. omega (arith, bit-union m b u) }
+
+      sound : {on off e g : ℕ} → FailedUnder base v y m a b on off e g → Conflicts y m e g → (f : ℕ) → obeysMasks f y m ≡ true → obeysMasks f a b ≡ true
+          → obeysMasks f (remove (union y a) v) (remove (union m b) v) ≡ true
+      sound t z f h k =
+          by-cases (ℕ-discrete (bit a v) 1)
+          (λ s.
+          resolvent f y m a b (union y a) (union m b) v yes-in yes-too no-in no-too
+          (omega (arith, z .yes-false .keeps v, set-no t, t .forces .one-sign))
+          (omega (arith, t .forces .one-sign))
+          h k)
+          (λ s.
+          resolvent f a b y m (union y a) (union m b) v yes-too yes-in no-too no-in
+          (omega (arith, t .forces .one-sign))
+          (omega (arith, z .no-false .keeps v, set-yes t, t .forces .one-sign))
+          k h)
+
+      false-there : {on off e g : ℕ} → FailedUnder base v y m a b on off e g → Conflicts y m e g
+          → Conflicts (remove (union y a) v) (remove (union m b) v) on off
+      false-there {on} {off} {e} {g} t z =
+          record {
+            yes-false = record {
+              keeps = λ u.
+                  by-cases (ℕ-discrete u v) (λ i. rw i (omega (arith, bit-remove-same (union y a) v)))
+                  (λ i.
+                  omega (
+                    arith,
+                    bit-remove-other (union y a) v u i,
+                    bit-union y a u,
+                    z .yes-false .keeps u,
+                    assigned-other (t .set) u i .1,
+                    t .forces .yes-false u i,
+                  ));
+            };
+            no-false = record {
+              keeps = λ u.
+                  by-cases (ℕ-discrete u v) (λ i. rw i (omega (arith, bit-remove-same (union m b) v)))
+                  (λ i.
+                  omega (
+                    arith,
+                    bit-remove-other (union m b) v u i,
+                    bit-union m b u,
+                    z .no-false .keeps u,
+                    assigned-other (t .set) u i .0,
+                    t .forces .no-false u i,
+                  ));
+            };
+          }
+
+  -- the two rules without v
+  pub resolve-both : {w r i j c d : ℕ} → w ≡ union y m → r ≡ remove w v → r ≢ w → i ≡ union y a → c ≡ remove i v → j ≡ union m b → d ≡ remove j v
+      → Resolved base v y m a b c d
+  resolve-both {w} {r} {i} {j} {c} {d} e k o h p l q = both (p ∙ ap (λ (x : ℕ). remove x v) h) (q ∙ ap (λ (x : ℕ). remove x v) l) (named w v (λ x. o (k ∙ x)) e)
+
+pub ruleset resolve-laws = (resolve-absent, resolve-above, resolve-both)
+
+-- ---- `handed_up`
+
+-- the variables of a rule that are not set: none of a conflict, and the forced one
+module _ (y m on off : ℕ) where
+  conflict-left : Conflicts y m on off → diff (union y m) (union on off) ≡ 0
+  conflict-left t =
+      ext _ 0 (λ u. omega (arith, bit-zero u, bit-diff (union y m) (union on off) u, bit-union y m u, bit-union on off u, t .yes-false .keeps u, t .no-false .keeps u))
+
+  forced-left : (v : ℕ) → Forces y m on off v → bit (diff (union y m) (union on off)) v ≡ 1
+  forced-left v t =
+      omega (arith, bit-diff (union y m) (union on off) v, in-either y m v (t .one-sign), bit-union on off v, t .not-on, t .not-off)
+
+  left-forced : (v u : ℕ) → Forces y m on off v → bit (diff (union y m) (union on off)) u ≡ 1 → u ≡ v
+  left-forced v u t e =
+      by-cases (ℕ-discrete u v) (λ i. i)
+      (λ i.
+      absurd
+      (omega (arith, bit-diff (union y m) (union on off) u, bit-union y m u, bit-union on off u, t .yes-false u i, t .no-false u i, bit-le on u, bit-le off u)))
+
+  others-in : (base v : ℕ) → Forces y m on off v → Within (diff (union y m) (diff (union y m) (union on off))) base → Within (remove (union y m) v) base
+  others-in base v t w =
+      record {
+        keeps = λ u.
+            by-cases (ℕ-discrete u v) (λ i. rw i (omega (arith, bit-remove-same (union y m) v)))
+            (λ i.
+            omega (
+              arith,
+              bit-remove-other (union y m) v u i,
+              set u i,
+              bit-diff (union y m) (diff (union y m) (union on off)) u,
+              bit-diff (union y m) (union on off) u,
+              w .keeps u,
+            ));
+      }
+    where
+      set : (u : ℕ) → u ≢ v → bit (union y m) u ≤ bit (union on off) u
+      set u i = omega (arith, bit-union y m u, bit-union on off u, t .yes-false u i, t .no-false u i)
+
+module _ {base y m on off l : ℕ} (d : l ≡ diff (union y m) (union on off)) where
+  -- nothing is left to force
+  pub handed-conflict : l ≡ 0 → HandedUp base y m on off true
+  handed-conflict z = record { said = λ t. record { place = go (t .acts) } }
+    where
+      go : Acts y m on off → Stands base y m on off
+      go (inl t) = inl t
+      go (inr t) = absurd (omega (arith, forced-left y m on off (t .forced) (t .forces), bit-zero (t .forced), ap (λ (x : ℕ). bit x (t .forced)) (sym d ∙ z)))
+
+  -- the others are in base, or not
+  pub handed-above : {r : Bool} {w i : ℕ} → l ≢ 0 → w ≡ union y m → i ≡ diff w l → r ≡ subset i base → HandedUp base y m on off r
+  handed-above {r} {w} {i} n p e f = record { said = λ t. go r (t .acts) f }
+    where
+      go : (r : Bool) → Acts y m on off → r ≡ subset i base → Hands base y m on off r
+      go true (inl t) f = record { place = inl t }
+      go true (inr t) f =
+          record { place = inr (t .forced, t .forces, others-in y m on off base (t .forced) (t .forces) (rw (e, p, d) at (subset-within i base (sym f)))) }
+      go false (inl t) f = absurd (n (d ∙ conflict-left y m on off t))
+      go false (inr t) f = t
+
+pub ruleset hand-laws = (handed-conflict, handed-above)
+
+-- ---- top
+
+-- a rule in its place is a conflict or forces a variable
+pub placed-acts : {base y m on off : ℕ} → Placed base y m on off → Acting y m on off
+placed-acts {base} {y} {m} {on} {off} p = record { acts = go (p .place) }
+  where
+    go : Stands base y m on off → Acts y m on off
+    go (inl t) = inl t
+    go (inr t) = inr (record { forced = t .0; forces = t .1 })
+
+-- and so is the rule of a branch that failed after a try, with the tried variable unset again
+pub tried-acts : {y m on off v c d s : ℕ} {value : Bool} → bit on v ≡ 0 → bit off v ≡ 0 → Assigned on off v value c d → s ≡ union on off → Placed s y m c d
+    → Acting y m on off
+tried-acts {y} {m} {on} {off} {v} {c} {d} {s} x z a e p =
+    record { acts = go (back s y m on off v c d x z a (rw e (omega (arith, bit-union on off v))) (p .place)) }
+  where
+    go : Back s y m on off v c d x z a (rw e (omega (arith, bit-union on off v))) → Acts y m on off
+    go (inl t) = inl t
+    go (inr t) = inr (record { forced = t .0; forces = t .1 })
+
+-- the variable that a rule forces is the one of it that is not set
+module _ {y m on off l : ℕ} (d : l ≡ diff (union y m) (union on off)) where
+  pub left-some : ForcesOne y m on off → 0 < l
+  left-some t = pos-of-member l (t .forced) (rw d (forced-left y m on off (t .forced) (t .forces)))
+
+  pub lowest-forced : {v : ℕ} → ForcesOne y m on off → Lowest l v → Forces y m on off v
+  lowest-forced {v} t o =
+      rw (left-forced y m on off (t .forced) v (t .forces) (ap (λ (x : ℕ). bit x v) (sym d) ∙ o .least .member)) (t .forces)
+
+  pub none-left : Acting y m on off → l ≡ 0 → Conflicts y m on off
+  none-left a z = go (a .acts)
+    where
+      go : Acts y m on off → Conflicts y m on off
+      go (inl t) = t
+      go (inr t) = absurd (omega (arith, left-some t))
+
+  pub some-left : Acting y m on off → l ≢ 0 → ForcesOne y m on off
+  some-left a n = go (a .acts)
+    where
+      go : Acts y m on off → ForcesOne y m on off
+      go (inl t) = absurd (n (d ∙ conflict-left y m on off t))
+      go (inr t) = t
+
+-- a rule of the lists is implied
+pub listed-implied : {n : ℕ} {ys ns : List ℕ} {on off y m : ℕ} → Posed n ys ns on off → Listed ys ns y m → Implied n ys ns y m
+listed-implied {n} {ys} {ns} p l =
+    let a = l .rule in
+    record {
+      yes-below = rw (a .yes-there) (p .yes-masks .below (l .place) (a .yes-place));
+      no-below = rw (a .no-there) (p .no-masks .below (l .place) (a .no-place));
+      obeyed = λ f e. rw (a .yes-there, a .no-there) (obeys-at f ys ns (l .place) e (a .yes-place) (a .no-place));
+    }
+
+-- what an implied rule says of a model
+module _ {n : ℕ} {ys ns : List ℕ} {y m on off f : ℕ} (i : Implied n ys ns y m) (k : Model n ys ns on off f) where
+  -- a conflict: there is none
+  pub conflict-none : Conflicts y m on off → ⊥
+  conflict-none t = let s = obeys-some f y m (i .obeyed f (k .obeyed)) in go (s .0) (s .1 .truly)
+    where
+      go : (u : ℕ) → TrueAt f y m u → ⊥
+      go u (inl e) = omega (arith, e .0, e .1, t .yes-false .keeps u, k .avoids .avoids u)
+      go u (inr e) = omega (arith, e .0, e .1, t .no-false .keeps u, k .keeps .keeps u)
+
+  -- a forced variable has its value
+  pub forced-value : (v : ℕ) → Forces y m on off v → bit f v ≡ bit y v
+  forced-value v t = let s = obeys-some f y m (i .obeyed f (k .obeyed)) in go (s .0) (s .1 .truly) (ℕ-discrete (s .0) v)
+    where
+      go : (u : ℕ) → TrueAt f y m u → Dec (u ≡ v) → bit f v ≡ bit y v
+      go u (inl e) (yes q) = omega (arith, rw q at (e .0), rw q at (e .1))
+      go u (inr e) (yes q) = omega (arith, rw q at (e .0), rw q at (e .1), t .one-sign)
+      go u (inl e) (no q) = absurd (omega (arith, e .0, e .1, t .yes-false u q, k .avoids .avoids u))
+      go u (inr e) (no q) = absurd (omega (arith, e .0, e .1, t .no-false u q, k .keeps .keeps u))
