@@ -1,6 +1,7 @@
 // Groups of many books.
 use crate::compare;
 use crate::compare::Tally;
+use crate::cores;
 use crate::shapes;
 use crate::walks;
 use crate::walks::Walked;
@@ -29,6 +30,30 @@ pub fn edited(t: Tally, books: u32) -> Tally {
         let like = shapes::any(seed, 10, 10, 999);
         let d = edits::much_edited(build::made_book(random::next(seed), like));
         after = compare::count(after, d);
+        seed = random::next(d.seed);
+    }
+    after
+}
+
+// Books with a hidden core.
+pub fn cores(t: Tally, books: u32) -> Tally {
+    let mut after = t;
+    let mut seed = 246813579246813579;
+    for i in 0..books {
+        let d = cores::made(seed);
+        after = compare::count(after, d);
+        seed = random::next(d.seed);
+    }
+    after
+}
+
+// The same, walked.
+pub fn walked_cores(w: Walked, books: u32) -> Walked {
+    let mut after = w;
+    let mut seed = 135792468135792468;
+    for i in 0..books {
+        let d = cores::made(seed);
+        after = walks::count(after, d);
         seed = random::next(d.seed);
     }
     after

@@ -3,6 +3,7 @@
 mod asked;
 mod asked_log;
 mod compare;
+mod cores;
 mod counter;
 mod counter_logs;
 mod fillings;
@@ -57,6 +58,21 @@ fn edited_books(t: Tally) {
     counted(t.refused, b" refused", b")\n");
 }
 
+fn core_books(t: Tally) {
+    line(
+        b"model of books with a hidden core",
+        t.tried,
+        t.models_differ,
+    );
+    counted(t.without_model, b" without a model", b")\n");
+    line(
+        b"consequence of books with a hidden core",
+        t.tried,
+        t.consequences_differ,
+    );
+    counted(t.with_more, b" with more than the facts", b")\n");
+}
+
 fn worked_books(name: &[u8], w: Worked) {
     result(name, w.tried, w.differ, b"\n");
 }
@@ -108,9 +124,11 @@ fn walks_at(w: Walked, cost: u16) -> Walked {
 fn main() {
     good_books(groups::made_up(compare::none(), 20000));
     edited_books(groups::edited(compare::none(), 20000));
+    core_books(groups::cores(compare::none(), 4000));
     worked_books(b"reckoned logs", worked::all());
     worked_books(b"orders at the counter, steps", counter::all());
     worked_books(b"orders at the counter, logs", counter_logs::all());
     let w = walks_at(walks_at(walks_at(walks::none(), 1), 3), 999);
+    let w = groups::walked_cores(w, 600);
     walked_books(groups::walked_edited(w, 1000));
 }
