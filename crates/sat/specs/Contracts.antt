@@ -5,7 +5,7 @@ use mathlib.Core.Bool.{Bool, true, false}
 use mathlib.Core.List.{List}
 use Prim.Native.Nat.{ℕ, _+_, _-_, _^_, _≤_, _<_}
 use lib.ListN.{length, getD}
-use Rattle.sets.specs.Sets.{width, bit, has, union, insert, remove, count, Within, Apart}
+use Rattle.sets.specs.Sets.{width, bit, union, insert, remove, count, Within, Apart}
 use Rattle.literals.specs.Truth.{obeysMasks}
 use Rattle.sat.specs.Meaning.{obeysAll, Model, NoModel}
 use Rattle.sat.specs.declared.Look.{Look}
@@ -116,12 +116,12 @@ pub record Open (ys ns : List ℕ) (on off x : ℕ) : Type 0 where
   pub below : (n : ℕ) → MasksBelow n ys → MasksBelow n ns → x < 2 ^ n
   pub not-set : Apart x (union on off)
 
--- Variables to try: there are some.
+-- Variables to try, at least one.
 pub record ToTry (ys ns : List ℕ) (on off x : ℕ) : Type 0 where
   pub opened : Open ys ns on off x
   pub some : 0 < x
 
--- The variable to try is one of them.
+-- The variable chosen: one of such variables.
 pub record Chosen (ys ns : List ℕ) (on off v : ℕ) : Type 0 where
   pub small : v < width
   pub among : ℕ
@@ -169,34 +169,25 @@ Stands base y m on off = Conflicts y m on off ⊎ ((v : ℕ) × Forces y m on of
 pub record Placed (base y m on off : ℕ) : Type 0 where
   pub place : Stands base y m on off
 
--- A rule is a conflict or forces a variable.
+-- A rule acts: it is a conflict or forces a variable.
 abbrev pub Acts : ℕ → ℕ → ℕ → ℕ → Type 0
 Acts y m on off = Conflicts y m on off ⊎ ForcesOne y m on off
 
 pub record Acting (y m on off : ℕ) : Type 0 where
   pub acts : Acts y m on off
 
--- Such a rule is handed up, or else forces a variable here.
+-- Whether a rule that acts is handed up: where it stands as the rule of a failed branch does. Where not, it forces a variable here.
 abbrev pub Hands : ℕ → ℕ → ℕ → ℕ → ℕ → Bool → Type 0
 Hands base y m on off true = Placed base y m on off
-Hands base y m on off false = ForcesOne y m on off
+Hands base y m on off false = ForcesOne y m on off × (Placed base y m on off → ⊥)
 
 pub record HandedUp (base y m on off : ℕ) (r : Bool) : Type 0 where
   pub said : Acting y m on off → Hands base y m on off r
 
--- Variable v, forced under (on, off) by the rule (a, b), was set, and the branch (c, d) failed with the rule (y, m).
-pub record FailedUnder (base v y m a b on off c d : ℕ) : Type 0 where
-  pub forces : Forces a b on off v
-  pub set : Assigned on off v (has a v) c d
-  pub base-set : Within base (union on off)
-  pub placed : Placed base y m c d
-
--- What (y, m) becomes where v, forced by (a, b), is unset again: a rule (c, d) that the two imply, in its place.
-pub record Resolved (base v y m a b c d : ℕ) : Type 0 where
-  pub below : (n : ℕ) → y < 2 ^ n → m < 2 ^ n → a < 2 ^ n → b < 2 ^ n → (c < 2 ^ n) × (d < 2 ^ n)
-  pub obeyed : (on off e g : ℕ) → FailedUnder base v y m a b on off e g
-      → (f : ℕ) → obeysMasks f y m ≡ true → obeysMasks f a b ≡ true → obeysMasks f c d ≡ true
-  pub placed : (on off e g : ℕ) → FailedUnder base v y m a b on off e g → Placed base c d on off
+-- The rule (c, d) is the resolvent of (y, m) and (a, b) on v: their literals but those of v.
+pub record Resolvent (v y m a b c d : ℕ) : Type 0 where
+  pub yes-said : c ≡ remove (union y a) v
+  pub no-said : d ≡ remove (union m b) v
 
 -- ---- the search
 
@@ -224,8 +215,8 @@ Ends n ys ns on off base (Branch.Implied r) = Implied n ys ns (r .yes) (r .no) �
 pub record Followed (n : ℕ) (ys ns : List ℕ) (on off base : ℕ) (r : Branch) : Type 0 where
   pub ends : Ends n ys ns on off base r
 
--- A partial filling of n variables.
-pub record Posable (n on off : ℕ) : Type 0 where
+-- A partial filling of n variables, which a mask has room for.
+pub record PartialOf (n on off : ℕ) : Type 0 where
   pub small : n ≤ width
   pub on-below : on < 2 ^ n
   pub apart : Apart on off

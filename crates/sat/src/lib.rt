@@ -6,7 +6,7 @@ ghost use mathlib.Core.Path.{_≡_};
 ghost use Prim.Native.Nat.{_≤_, _<_};
 ghost use lib.ListN.{length};
 ghost use Rattle.sets.specs.Sets.{width, union, diff};
-ghost use Rattle.sat.specs.Contracts.{Posed, Assigned, Looked, RuleAt, ToTry, Chosen, Passed, LeftBetween, LeftByAll, HandedUp, Resolved, Posable, Completes, Following, Forcing, Trying, Followed, Searched};
+ghost use Rattle.sat.specs.Contracts.{Posed, Assigned, Looked, RuleAt, ToTry, Chosen, Passed, LeftBetween, LeftByAll, HandedUp, Resolvent, PartialOf, Completes, Following, Forcing, Trying, Followed, Searched};
 
 // A partial filling: the variables of `on` are yes, those of `off` are no, and the others are not set.
 pub struct Partial {
@@ -200,7 +200,7 @@ fn choose(yes: &[u64], no: &[u64], p: Partial, pending: u64, failed: bool) -> u3
 
 // A filling that extends the partial one: the other variables have their preferred values.
 fn complete(n: u32, p: Partial, prefer: u64) -> u64
-    requires { ⌜ Posable n (p .on) (p .off) ⌝ }
+    requires { ⌜ PartialOf n (p .on) (p .off) ⌝ }
     ensures { λ r. ⌜ Completes n (p .on) (p .off) r ⌝ }
 {
     let free = sets::complement(n, sets::union(p.on, p.off));
@@ -215,8 +215,8 @@ fn unset_of(rule: Rule, p: Partial) -> u64
     sets::difference(sets::union(rule.yes, rule.no), set)
 }
 
-// Whether a rule that is a conflict or forces a variable is none of this frame's: it forces nothing here, or would have
-// forced the same before the last try.
+// Whether a rule that is a conflict or forces a variable is none of this frame's: it is a conflict, or would have forced the
+// same variable before the last try.
 fn handed_up(rule: Rule, p: Partial, base: u64) -> bool
     ensures { λ r. ⌜ HandedUp base (rule .yes) (rule .no) (p .on) (p .off) r ⌝ }
 {
@@ -228,27 +228,19 @@ fn handed_up(rule: Rule, p: Partial, base: u64) -> bool
     sets::subset(others, base)
 }
 
-// What the rule of a failed branch becomes where `v`, set because of `reason`, is unset again. It stays as it is where it
-// does not name `v`, or where it forces `v` by what was set before the last try; else the two are resolved on `v`.
-fn resolve(rule: Rule, reason: Rule, v: u32, base: u64) -> Rule
+// The resolvent of two rules on variable `v`: their literals but those of `v`.
+fn resolve(rule: Rule, reason: Rule, v: u32) -> Rule
     requires { ⌜ v < width ⌝ }
-    ensures { λ r. ⌜ Resolved base v (rule .yes) (rule .no) (reason .yes) (reason .no) (r .yes) (r .no) ⌝ }
+    ensures { λ r. ⌜ Resolvent v (rule .yes) (rule .no) (reason .yes) (reason .no) (r .yes) (r .no) ⌝ }
 {
-    let variables = sets::union(rule.yes, rule.no);
-    let others = sets::remove(variables, v);
-    if others == variables {
-        return rule;
-    }
-    if sets::subset(others, base) {
-        return rule;
-    }
     Rule {
         yes: sets::remove(sets::union(rule.yes, reason.yes), v),
         no: sets::remove(sets::union(rule.no, reason.no), v),
     }
 }
 
-// A branch with the variable set that `reason` forces. Where it fails, its rule is resolved with `reason`.
+// A branch in which the variable is set that `reason` forces. Where that fails with a rule that does not reach above this
+// frame, the rule names the variable, and is resolved with `reason` on it.
 fn force(
     n: u32,
     yes: &[u64],
@@ -265,7 +257,12 @@ fn force(
     let q = assign(p, v, sets::has(reason.yes, v));
     match follow(n, yes, no, q, base, hints) {
         Branch::Model(m) => Branch::Model(m),
-        Branch::Implied(rule) => Branch::Implied(resolve(rule, reason, v, base)),
+        Branch::Implied(rule) => {
+            if handed_up(rule, p, base) {
+                return Branch::Implied(rule);
+            }
+            Branch::Implied(resolve(rule, reason, v))
+        }
     }
 }
 

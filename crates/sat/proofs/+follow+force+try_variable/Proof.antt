@@ -4,7 +4,7 @@
 use Prim.Native.Nat.{ℕ, _+_, _*_, _<_}
 use borrow.Author.Needs.{needs}
 use Rattle.sat.specs.Contracts.{unset}
-use Rattle.sat.specs.Laws.Searches.{follow-laws, force-laws, force-lowest, force-failed, try-laws, try-unset, try-forcing}
+use Rattle.sat.specs.Laws.Searches.{follow-laws, force-laws, force-lowest, force-handed, try-laws, try-unset, try-forcing}
 use borrow.Fn.Kinds.{In}
 use borrow.Fn.PlainCycle.{Measures, is, falls, and}
 use Rattle.sat.proofs.follow.Reads as follow
@@ -68,7 +68,7 @@ follow-claims t = (scan-reads.Asked, scan-reads.Learnt, force-below t, force.Pos
 
 -- what the callees of `force` ask and say
 abbrev force-claims : ℕ → force-lts.Claims
-force-claims t = (unset-of-reads.Asked, unset-of-reads.Learnt, lowest-reads.Asked, lowest-reads.Learnt, has-reads.Asked, has-reads.Learnt, assign-reads.Asked, assign-reads.Learnt, follow-below t, follow.Post, resolve-reads.Asked, resolve-reads.Learnt)
+force-claims t = (unset-of-reads.Asked, unset-of-reads.Learnt, lowest-reads.Asked, lowest-reads.Learnt, has-reads.Asked, has-reads.Learnt, assign-reads.Asked, assign-reads.Learnt, follow-below t, follow.Post, handed-up-reads.Asked, handed-up-reads.Learnt, resolve-reads.Asked, resolve-reads.Learnt)
 
 -- what the callees of `try-variable` ask and say
 abbrev try-variable-claims : ℕ → try-variable-lts.Claims
@@ -128,19 +128,27 @@ force-enum-known-m t c = search (needs, force-laws)
 force-enum-known-rule : (t : ℕ) → force-lts.Need-enum-known-rule (force-claims t) (force-at t) force.Post
 force-enum-known-rule t c = search (needs, force-laws)
 
+force-handed-up-requires : (t : ℕ) → force-lts.Need-handed-up-requires (force-claims t) (force-at t) force.Post
+force-handed-up-requires t c κs = search (needs, force-laws)
+
+force-returns : (t : ℕ) → force-lts.Need-returns (force-claims t) (force-at t) force.Post
+force-returns t c =
+    let q = c .before .before .before .before .before in
+    let l = q .before .before .before in
+    let f = l .before .before .before .before .pre .1 in
+    force-handed f (force-lowest f (l .before .unset-of .ensures) (l .lowest .ensures)) (q .before .assign .ensures) (q .follow .ensures)
+    (c .before .before .before .rule .given .1)
+    (c .before .handed-up .ensures)
+    (c .if1 .taken)
+
 force-resolve-requires : (t : ℕ) → force-lts.Need-resolve-requires (force-claims t) (force-at t) force.Post
 force-resolve-requires t c κs = search (needs, force-laws)
 
-force-returns : (t : ℕ) → force-lts.Need-returns (force-claims t) (force-at t) force.Post
-force-returns t c = search (needs, force-laws)
-
 force-returns-2 : (t : ℕ) → force-lts.Need-returns-2 (force-claims t) (force-at t) force.Post
-force-returns-2 t c =
-    let q = c .before .before .before .before in
-    let l = q .before .before .before in
-    let f = l .before .before .before .before .pre .1 in
-    force-failed f (force-lowest f (l .before .unset-of .ensures) (l .lowest .ensures)) (q .before .assign .ensures) (q .before .before .has .ensures) (q .follow .ensures)
-    (c .before .before .rule .given .1) (c .resolve .ensures)
+force-returns-2 t c = search (needs, force-laws)
+
+force-returns-3 : (t : ℕ) → force-lts.Need-returns-3 (force-claims t) (force-at t) force.Post
+force-returns-3 t c = search (needs, force-laws)
 
 try-variable-choose-requires : (t : ℕ) → try-variable-lts.Need-choose-requires (try-variable-claims t) (try-variable-at t) try-variable.Post
 try-variable-choose-requires t c κs = search (needs, try-laws)
@@ -212,9 +220,11 @@ pub +follow+force+try-variable-spec : {M : Type 1} → statement M
     (force-follow-requires t)
     (force-enum-known-m t)
     (force-enum-known-rule t)
-    (force-resolve-requires t)
+    (force-handed-up-requires t)
     (force-returns t)
-    (force-returns-2 t))
+    (force-resolve-requires t)
+    (force-returns-2 t)
+    (force-returns-3 t))
     λ t. try-variable-lts.spec (try-variable-claims t)
     (try-variable-at t)
     try-variable.Post

@@ -1,20 +1,22 @@
--- Rules that the rules imply, and where they stand: what search.md calls implied, place and top. Over any number of variables and any rules,
--- those with a variable in both masks and the empty rule included. Assumes nothing.
+-- What the search rests on, over any number of variables and any rules, those with a variable in both masks and the empty rule included:
+-- implied (what is obeyed with two rules is obeyed with their resolvent), place (where the rule of a failed branch stands with a variable unset
+-- again), top (what an implied rule says of the models), model (where each rule has a true literal). Assumes nothing.
 use mathlib.Core.Path.{_≡_, refl, sym, ap, _∙_}
 use mathlib.Core.Logic.{_≢_, _⊎_, inl, inr, by-cases}
-use mathlib.Core.Bool.{Bool, true, false}
+use mathlib.Core.Bool.{Bool, true, false, true≢false}
 use mathlib.Core.List.{List}
 use Prim.Native.Nat.{ℕ, _+_, _≤_, _<_}
 use native.Mathlib.Decide.{ℕ-discrete}
 use native.Mathlib.Omega.{arith}
+use lib.ListN.{length}
 use Rattle.sets.specs.Sets.{bit, has, union, diff, remove, subset, Within, Lowest}
-use Rattle.sets.specs.Laws.Bits.{bit-le, bit-zero, bit-union, bit-diff, bit-remove-same, bit-remove-other, union-lt, remove-lt, pos-of-member, ext}
-use Rattle.sets.specs.Laws.Subset.{subset-within, in-union}
+use Rattle.sets.specs.Laws.Bits.{bit-le, bit-zero, bit-union, bit-diff, bit-remove-same, bit-remove-other, pos-of-member, ext}
+use Rattle.sets.specs.Laws.Subset.{subset-within, within-subset, in-union}
 use Rattle.literals.specs.Truth.{obeysMasks}
 use Rattle.literals.specs.Laws.{TrueLiteral, obeys-yes, obeys-no, obeys-some}
 use Rattle.sat.specs.Meaning.{Model}
-use Rattle.sat.specs.Contracts.{Posed, Assigned, Conflicts, Forces, ForcesOne, Listed, Implied, Stands, Placed, Acts, Acting, Hands, HandedUp, FailedUnder, Resolved}
-use Rattle.sat.specs.Laws.Rules.{obeys-at}
+use Rattle.sat.specs.Contracts.{Posed, Assigned, Conflicts, Forces, ForcesOne, Listed, MetBetween, Implied, Stands, Placed, Acts, Acting, Hands, HandedUp, Resolvent, Completes}
+use Rattle.sat.specs.Laws.Rules.{obeys-at, obeys-each}
 use Rattle.sat.specs.Laws.Assigns.{digit-has, assigned-other, assigned-same}
 
 -- ---- implied
@@ -66,6 +68,10 @@ module _ (f y m a b c d v : ℕ) (yc : Within y c) (ac : Within a c) (md : Withi
 -- what stands in one of two masks
 in-either : (y m u : ℕ) → bit y u + bit m u ≡ 1 → bit (union y m) u ≡ 1
 in-either y m u e = omega (arith, bit-union y m u, bit-le y u, bit-le m u)
+
+-- what was set at the last try does not hold a variable that is not set
+base-clear : (base on off v : ℕ) → bit on v ≡ 0 → bit off v ≡ 0 → Within base (union on off) → bit base v ≡ 0
+base-clear base on off v x z w = omega (arith, w .keeps v, bit-union on off v)
 
 -- the rule of a failed branch, where v, set last, is unset again: it stands as before, or it forces v
 module _ (base y m on off v c d : ℕ) {value : Bool} (x : bit on v ≡ 0) (z : bit off v ≡ 0) (s : Assigned on off v value c d) (k : bit base v ≡ 0) where
@@ -126,137 +132,93 @@ module _ (base y m on off v c d : ℕ) {value : Bool} (x : bit on v ≡ 0) (z : 
       by-cases (ℕ-discrete (bit (union y m) v) 0) (λ e. inl (conflict-stays t e)) (λ e. inr (v, conflict-forces t e, inl refl))
   back (inr t) = inr (t .0, forces-stays (t .0) (t .1) (t .2), inr (t .2))
 
--- ---- `resolve`
+-- with v unset again, the rule of a failed branch acts
+pub failed-acts : {base y m on off v c d : ℕ} {value : Bool} → bit on v ≡ 0 → bit off v ≡ 0 → Assigned on off v value c d → Within base (union on off)
+    → Placed base y m c d → Acting y m on off
+failed-acts {base} {y} {m} {on} {off} {v} {c} {d} x z s w p = record { acts = go (back base y m on off v c d x z s (base-clear base on off v x z w) (p .place)) }
+  where
+    go : Back base y m on off v c d x z s (base-clear base on off v x z w) → Acts y m on off
+    go (inl t) = inl t
+    go (inr t) = inr (record { forced = t .0; forces = t .1 })
 
--- what a failed branch says, with v unset again
-module _ {base v y m a b on off e g : ℕ} (t : FailedUnder base v y m a b on off e g) where
-  base-clear : bit base v ≡ 0
-  base-clear = omega (arith, t .base-set .keeps v, bit-union on off v, t .forces .not-on, t .forces .not-off)
+-- ---- a rule resolved with the one that forced the variable
 
-  came-back : Back base y m on off v e g (t .forces .not-on) (t .forces .not-off) (t .set) base-clear
-  came-back = back base y m on off v e g (t .forces .not-on) (t .forces .not-off) (t .set) base-clear (t .placed .place)
+pub resolvent-said : {v y m a b c d i j : ℕ} → i ≡ union y a → c ≡ remove i v → j ≡ union m b → d ≡ remove j v → Resolvent v y m a b c d
+resolvent-said {v} h p k q = record { yes-said = p ∙ ap (λ (x : ℕ). remove x v) h; no-said = q ∙ ap (λ (x : ℕ). remove x v) k }
+
+-- the rule (a, b) forces v, and with v set to what it asks for the branch failed with the rule (y, m), which is not handed up
+module _ (base y m a b on off v c d : ℕ) {value : Bool} (t : Forces a b on off v) (s : Assigned on off v value c d) (e : value ≡ has a v)
+    (w : Within base (union on off)) (p : Placed base y m c d) (n : Placed base y m on off → ⊥) where
+  clear : bit base v ≡ 0
+  clear = base-clear base on off v (t .not-on) (t .not-off) w
 
   -- the value that was set is the one that (a, b) asks for
-  set-yes : bit e v ≡ bit a v
-  set-yes = assigned-same (t .set) (t .forces .not-on) (t .forces .not-off) .0 ∙ digit-has a v (has a v) refl
+  set-yes : bit c v ≡ bit a v
+  set-yes = assigned-same s (t .not-on) (t .not-off) .0 ∙ digit-has a v value e
 
-  set-no : bit g v ≡ bit b v
-  set-no = omega (arith, set-yes, assigned-same (t .set) (t .forces .not-on) (t .forces .not-off) .1, t .forces .one-sign)
+  set-no : bit d v ≡ bit b v
+  set-no = omega (arith, set-yes, assigned-same s (t .not-on) (t .not-off) .1, t .one-sign)
 
-  -- where v stands in the rule, the rule is a conflict
-  conflict-there : bit (union y m) v ≢ 0 → Conflicts y m e g
-  conflict-there n = go (t .placed .place)
+  -- (y, m) is a conflict with v set
+  conflict-there : Conflicts y m c d
+  conflict-there = go (p .place)
     where
-      go : Stands base y m e g → Conflicts y m e g
+      go : Stands base y m c d → Conflicts y m c d
       go (inl q) = q
-      go (inr q) = absurd (n (absent base y m on off v e g (t .forces .not-on) (t .forces .not-off) (t .set) base-clear (q .0) (q .1) (q .2)))
+      go (inr q) =
+          absurd (n (record { place = inr (q .0, forces-stays base y m on off v c d (t .not-on) (t .not-off) s clear (q .0) (q .1) (q .2), q .2) }))
 
--- what leaves the set when v does stands in it
-named : (w v : ℕ) {x : ℕ} → remove w v ≢ w → w ≡ x → bit x v ≢ 0
-named w v n p e =
-    n (ext (remove w v) w (λ u.
-    by-cases (ℕ-discrete u v) (λ i. rw i (omega (arith, bit-remove-same w v, ap (λ (z : ℕ). bit z v) p, e))) (λ i. bit-remove-other w v u i)))
+  -- it says of v the opposite of what (a, b) says
+  opposite-yes : bit y v ≤ bit b v
+  opposite-yes = omega (arith, conflict-there .yes-false .keeps v, set-no)
 
--- the rule is handed on as it is: where v is not in it, or its others are in base
-module _ {base v y m a b : ℕ} where
-  same-rule : ((on off e g : ℕ) → FailedUnder base v y m a b on off e g → Placed base y m on off) → Resolved base v y m a b y m
-  same-rule p = record { below = λ n h k i j. (h, k); obeyed = λ on off e g t f h k. h; placed = p }
+  opposite-no : bit m v ≤ bit a v
+  opposite-no = omega (arith, conflict-there .no-false .keeps v, set-yes)
 
-  pub resolve-absent : {w r : ℕ} → w ≡ union y m → r ≡ remove w v → r ≡ w → Resolved base v y m a b y m
-  resolve-absent {w} {r} p q e = same-rule (λ on off c d t. record { place = go (came-back t) })
+  -- what obeys the two obeys their resolvent
+  pub resolved-obeyed : (f : ℕ) → obeysMasks f y m ≡ true → obeysMasks f a b ≡ true → obeysMasks f (remove (union y a) v) (remove (union m b) v) ≡ true
+  resolved-obeyed f h k =
+      by-cases (ℕ-discrete (bit a v) 1)
+      (λ q. resolvent f y m a b (union y a) (union m b) v (in-union y a) yes-too (in-union m b) no-too (omega (arith, opposite-yes, t .one-sign)) (omega (arith, t .one-sign)) h k)
+      (λ q. resolvent f a b y m (union y a) (union m b) v yes-too (in-union y a) no-too (in-union m b) (omega (arith, t .one-sign)) (omega (arith, opposite-no, t .one-sign)) k h)
     where
-      gone : bit (union y m) v ≡ 0
-      gone = ap (λ (i : ℕ). bit i v) (sym (sym q ∙ e ∙ p)) ∙ bit-remove-same w v
-
-      go : {on off : ℕ} → Conflicts y m on off ⊎ ((u : ℕ) × Forces y m on off u × ((u ≡ v) ⊎ Within (remove (union y m) u) base)) → Stands base y m on off
-      go (inl t) = inl t
-      go (inr (u, t, inl i)) = absurd (omega (arith, gone, in-either y m v (rw i at (t .one-sign))))
-      go (inr (u, t, inr i)) = inr (u, t, i)
-
-  pub resolve-above : {w r : ℕ} {t : Bool} → w ≡ union y m → r ≡ remove w v → t ≡ subset r base → t ≡ true → Resolved base v y m a b y m
-  resolve-above {w} {r} p q i j = same-rule (λ on off c d t. record { place = go (came-back t) })
-    where
-      above : Within (remove (union y m) v) base
-      above = rw (q, p) at (subset-within r base (sym i ∙ j))
-
-      go : {on off : ℕ} → Conflicts y m on off ⊎ ((u : ℕ) × Forces y m on off u × ((u ≡ v) ⊎ Within (remove (union y m) u) base)) → Stands base y m on off
-      go (inl t) = inl t
-      go (inr (u, t, inl i)) = inr (v, rw i at t, above)
-      go (inr (u, t, inr i)) = inr (u, t, i)
-
-  both : {c d : ℕ} → c ≡ remove (union y a) v → d ≡ remove (union m b) v → bit (union y m) v ≢ 0 → Resolved base v y m a b c d
-  both {c} {d} p q n =
-      rw (p, q) (record {
-        below = λ k h i j l. (remove-lt k _ v (union-lt k y a h j), remove-lt k _ v (union-lt k m b i l));
-        obeyed = λ on off e g t f h k. sound t (conflict-there t n) f h k;
-        placed = λ on off e g t. record { place = inl (false-there t (conflict-there t n)) };
-      })
-    where
-      yes-in : Within y (union y a)
-      yes-in = in-union y a
-
-      no-in : Within m (union m b)
-      no-in = in-union m b
-
       yes-too : Within a (union y a)
       yes-too = record { keeps = λ u. omega (arith, bit-union y a u) }
 
       no-too : Within b (union m b)
       no-too = record { keeps = λ u. omega (arith, bit-union m b u) }
 
-      sound : {on off e g : ℕ} → FailedUnder base v y m a b on off e g → Conflicts y m e g → (f : ℕ) → obeysMasks f y m ≡ true → obeysMasks f a b ≡ true
-          → obeysMasks f (remove (union y a) v) (remove (union m b) v) ≡ true
-      sound t z f h k =
-          by-cases (ℕ-discrete (bit a v) 1)
-          (λ s.
-          resolvent f y m a b (union y a) (union m b) v yes-in yes-too no-in no-too
-          (omega (arith, z .yes-false .keeps v, set-no t, t .forces .one-sign))
-          (omega (arith, t .forces .one-sign))
-          h k)
-          (λ s.
-          resolvent f a b y m (union y a) (union m b) v yes-too yes-in no-too no-in
-          (omega (arith, t .forces .one-sign))
-          (omega (arith, z .no-false .keeps v, set-yes t, t .forces .one-sign))
-          k h)
-
-      false-there : {on off e g : ℕ} → FailedUnder base v y m a b on off e g → Conflicts y m e g
-          → Conflicts (remove (union y a) v) (remove (union m b) v) on off
-      false-there {on} {off} {e} {g} t z =
-          record {
-            yes-false = record {
-              keeps = λ u.
-                  by-cases (ℕ-discrete u v) (λ i. rw i (omega (arith, bit-remove-same (union y a) v)))
-                  (λ i.
-                  omega (
-                    arith,
-                    bit-remove-other (union y a) v u i,
-                    bit-union y a u,
-                    z .yes-false .keeps u,
-                    assigned-other (t .set) u i .1,
-                    t .forces .yes-false u i,
-                  ));
-            };
-            no-false = record {
-              keeps = λ u.
-                  by-cases (ℕ-discrete u v) (λ i. rw i (omega (arith, bit-remove-same (union m b) v)))
-                  (λ i.
-                  omega (
-                    arith,
-                    bit-remove-other (union m b) v u i,
-                    bit-union m b u,
-                    z .no-false .keeps u,
-                    assigned-other (t .set) u i .0,
-                    t .forces .no-false u i,
-                  ));
-            };
-          }
-
-  -- the two rules without v
-  pub resolve-both : {w r i j c d : ℕ} → w ≡ union y m → r ≡ remove w v → r ≢ w → i ≡ union y a → c ≡ remove i v → j ≡ union m b → d ≡ remove j v
-      → Resolved base v y m a b c d
-  resolve-both {w} {r} {i} {j} {c} {d} e k o h p l q = both (p ∙ ap (λ (x : ℕ). remove x v) h) (q ∙ ap (λ (x : ℕ). remove x v) l) (named w v (λ x. o (k ∙ x)) e)
-
-pub ruleset resolve-laws = (resolve-absent, resolve-above, resolve-both)
+  -- and it is a conflict with v unset
+  pub resolved-conflicts : Conflicts (remove (union y a) v) (remove (union m b) v) on off
+  resolved-conflicts =
+      record {
+        yes-false = record {
+          keeps = λ u.
+              by-cases (ℕ-discrete u v) (λ i. rw i (omega (arith, bit-remove-same (union y a) v)))
+              (λ i.
+              omega (
+                arith,
+                bit-remove-other (union y a) v u i,
+                bit-union y a u,
+                conflict-there .yes-false .keeps u,
+                assigned-other s u i .1,
+                t .yes-false u i,
+              ));
+        };
+        no-false = record {
+          keeps = λ u.
+              by-cases (ℕ-discrete u v) (λ i. rw i (omega (arith, bit-remove-same (union m b) v)))
+              (λ i.
+              omega (
+                arith,
+                bit-remove-other (union m b) v u i,
+                bit-union m b u,
+                conflict-there .no-false .keeps u,
+                assigned-other s u i .0,
+                t .no-false u i,
+              ));
+        };
+      }
 
 -- ---- `handed_up`
 
@@ -296,6 +258,15 @@ module _ (y m on off : ℕ) where
       set : (u : ℕ) → u ≢ v → bit (union y m) u ≤ bit (union on off) u
       set u i = omega (arith, bit-union y m u, bit-union on off u, t .yes-false u i, t .no-false u i)
 
+  in-others : (base v : ℕ) → Forces y m on off v → Within (remove (union y m) v) base → Within (diff (union y m) (diff (union y m) (union on off))) base
+  in-others base v t w =
+      record {
+        keeps = λ u.
+            by-cases (ℕ-discrete u v)
+            (λ i. rw i (omega (arith, bit-diff (union y m) (diff (union y m) (union on off)) v, forced-left v t, bit-le (union y m) v)))
+            (λ i. omega (arith, bit-diff (union y m) (diff (union y m) (union on off)) u, bit-remove-other (union y m) v u i, w .keeps u));
+      }
+
 module _ {base y m on off l : ℕ} (d : l ≡ diff (union y m) (union on off)) where
   -- nothing is left to force
   pub handed-conflict : l ≡ 0 → HandedUp base y m on off true
@@ -309,12 +280,16 @@ module _ {base y m on off l : ℕ} (d : l ≡ diff (union y m) (union on off)) w
   pub handed-above : {r : Bool} {w i : ℕ} → l ≢ 0 → w ≡ union y m → i ≡ diff w l → r ≡ subset i base → HandedUp base y m on off r
   handed-above {r} {w} {i} n p e f = record { said = λ t. go r (t .acts) f }
     where
+      not-above : Stands base y m on off → false ≡ subset i base → ⊥
+      not-above (inl k) f = n (d ∙ conflict-left y m on off k)
+      not-above (inr k) f = true≢false (sym (within-subset i base (rw (e, p, d) (in-others y m on off base (k .0) (k .1) (k .2)))) ∙ sym f)
+
       go : (r : Bool) → Acts y m on off → r ≡ subset i base → Hands base y m on off r
       go true (inl t) f = record { place = inl t }
       go true (inr t) f =
           record { place = inr (t .forced, t .forces, others-in y m on off base (t .forced) (t .forces) (rw (e, p, d) at (subset-within i base (sym f)))) }
       go false (inl t) f = absurd (n (d ∙ conflict-left y m on off t))
-      go false (inr t) f = t
+      go false (inr t) f = (t, λ k. not-above (k .place) f)
 
 pub ruleset hand-laws = (handed-conflict, handed-above)
 
@@ -325,16 +300,6 @@ pub placed-acts : {base y m on off : ℕ} → Placed base y m on off → Acting 
 placed-acts {base} {y} {m} {on} {off} p = record { acts = go (p .place) }
   where
     go : Stands base y m on off → Acts y m on off
-    go (inl t) = inl t
-    go (inr t) = inr (record { forced = t .0; forces = t .1 })
-
--- and so is the rule of a branch that failed after a try, with the tried variable unset again
-pub tried-acts : {y m on off v c d s : ℕ} {value : Bool} → bit on v ≡ 0 → bit off v ≡ 0 → Assigned on off v value c d → s ≡ union on off → Placed s y m c d
-    → Acting y m on off
-tried-acts {y} {m} {on} {off} {v} {c} {d} {s} x z a e p =
-    record { acts = go (back s y m on off v c d x z a (rw e (omega (arith, bit-union on off v))) (p .place)) }
-  where
-    go : Back s y m on off v c d x z a (rw e (omega (arith, bit-union on off v))) → Acts y m on off
     go (inl t) = inl t
     go (inr t) = inr (record { forced = t .0; forces = t .1 })
 
@@ -390,3 +355,15 @@ module _ {n : ℕ} {ys ns : List ℕ} {y m on off f : ℕ} (i : Implied n ys ns 
       go u (inr e) (yes q) = omega (arith, rw q at (e .0), rw q at (e .1), t .one-sign)
       go u (inl e) (no q) = absurd (omega (arith, e .0, e .1, t .yes-false u q, k .avoids .avoids u))
       go u (inr e) (no q) = absurd (omega (arith, e .0, e .1, t .no-false u q, k .keeps .keeps u))
+
+-- ---- model
+
+-- where each rule has a true literal, a filling that extends the partial one is a model
+pub met-model : {n : ℕ} {ys ns : List ℕ} {on off f : ℕ} → MetBetween 0 (length ys) ys ns on off → Completes n on off f → Model n ys ns on off f
+met-model {n} {ys} {ns} {on} {off} {f} m c =
+    record {
+      below = c .below;
+      keeps = c .keeps;
+      avoids = c .avoids;
+      obeyed = obeys-each f ys ns (λ i h. m .each-met i (omega arith) h .met f (c .keeps) (c .avoids));
+    }

@@ -3,17 +3,16 @@ use mathlib.Core.Path.{_≡_, sym, ap, subst, _∙_}
 use mathlib.Core.Logic.{_≢_, inl, by-cases}
 use mathlib.Core.Bool.{Bool, true, false}
 use mathlib.Core.List.{List}
-use Prim.Native.Nat.{ℕ, _+_, _*_, _^_, _≤_, _<_}
+use Prim.Native.Nat.{ℕ, _+_, _*_, _≤_, _<_}
 use native.Mathlib.Decide.{ℕ-discrete, decLt}
 use native.Mathlib.Omega.{arith}
-use Rattle.sets.specs.Sets.{bit, has, union, inter, diff, compl, Within, Lowest}
-use Rattle.sets.specs.Laws.Bits.{bit-le, bit-union, bit-inter, bit-compl, bit-compl-high, union-lt, inter-lt, compl-lt, member-lt}
+use Rattle.sets.specs.Sets.{bit, has, union, inter, diff, remove, compl, Within, Lowest}
+use Rattle.sets.specs.Laws.Bits.{bit-le, bit-union, bit-inter, bit-compl, bit-compl-high, union-lt, inter-lt, compl-lt, remove-lt, member-lt}
 use Rattle.sets.specs.Laws.Subset.{within-refl, in-union}
 use Rattle.sat.specs.Meaning.{Model, NoModel}
-use Rattle.sat.specs.Contracts.{Posed, Assigned, Unset, unset, Forces, Chosen, Passed, LeftByAll, Implied, Acting, HandedUp, FailedUnder, Resolved, Following, Forcing, Trying, Ends, Followed, Posable, Completes, Keeps, Searched}
-use Rattle.sat.specs.Laws.Rules.{obeys-each}
+use Rattle.sat.specs.Contracts.{Posed, Assigned, Unset, unset, Forces, Chosen, Passed, LeftByAll, Implied, Acting, Placed, HandedUp, Resolvent, Following, Forcing, Trying, Ends, Followed, PartialOf, Completes, Keeps, Searched}
 use Rattle.sat.specs.Laws.Assigns.{digit-has, assigned-other, model-assigned, assigned-model, posed-assigned, unset-less}
-use Rattle.sat.specs.Laws.Resolution.{placed-acts, tried-acts, left-some, lowest-forced, none-left, some-left, listed-implied, conflict-none, forced-value}
+use Rattle.sat.specs.Laws.Resolution.{placed-acts, failed-acts, resolved-obeyed, resolved-conflicts, left-some, lowest-forced, none-left, some-left, listed-implied, conflict-none, forced-value, met-model}
 use Rattle.sat.specs.declared.Rule.{Rule}
 use Rattle.sat.specs.declared.Pass.{Pass}
 use Rattle.sat.specs.declared.Pass.the-variants as Pass
@@ -29,7 +28,7 @@ compl-clear : (n s v : ℕ) → bit (compl n s) v + bit s v ≤ 1
 compl-clear n s v =
     by-cases (decLt v n) (λ h. omega (arith, bit-compl n s v h, bit-le s v)) (λ h. omega (arith, bit-compl-high n s v (omega arith), bit-le s v))
 
-pub completes : {n on off s c i f : ℕ} (prefer : ℕ) → Posable n on off → s ≡ union on off → c ≡ compl n s → i ≡ inter c prefer → f ≡ union on i
+pub completes : {n on off s c i f : ℕ} (prefer : ℕ) → PartialOf n on off → s ≡ union on off → c ≡ compl n s → i ≡ inter c prefer → f ≡ union on i
     → Completes n on off f
 completes {n} {on} {off} {s} {c} {i} {f} prefer p d e g h =
     rw h (record {
@@ -50,8 +49,8 @@ completes {n} {on} {off} {s} {c} {i} {f} prefer p d e g h =
           bit-union on off v,
         )
 
-pub posed-posable : {n : ℕ} {ys ns : List ℕ} {on off base : ℕ} → Following n ys ns on off base → Posable n on off
-posed-posable f = record { small = f .posed .small; on-below = f .posed .on-below; apart = f .posed .apart }
+pub posed-partial : {n : ℕ} {ys ns : List ℕ} {on off base : ℕ} → Following n ys ns on off base → PartialOf n on off
+posed-partial f = record { small = f .posed .small; on-below = f .posed .on-below; apart = f .posed .apart }
 
 -- ---- `follow`
 
@@ -75,14 +74,7 @@ module _ {n : ℕ} {ys ns : List ℕ} {on off base : ℕ} {p : Pass} where
       → Completes n on off m → Followed n ys ns on off base (Branch.Model m)
   follow-model {x} {m} f s e z c =
       let t = subst (Passed (LeftByAll ys ns on off) ys ns on off) e s .said in
-      record {
-        ends = record {
-          below = c .below;
-          keeps = c .keeps;
-          avoids = c .avoids;
-          obeyed = obeys-each m ys ns (λ i h. t .none-met z .each-met i (omega arith) h .met m (c .keeps) (c .avoids));
-        };
-      }
+      record { ends = met-model (t .none-met z) c }
 
   -- a variable is to be tried
   pub follow-trying : {x : ℕ} → Following n ys ns on off base → Passed (LeftByAll ys ns on off) ys ns on off p → p ≡ Pass.Quiet x → x ≢ 0
@@ -131,26 +123,33 @@ module _ {n : ℕ} {ys ns : List ℕ} {on off base y m : ℕ} where
     pub force-model : {r : Branch} {g : ℕ} → Followed n ys ns c d base r → r ≡ Branch.Model g → Followed n ys ns on off base (Branch.Model g)
     force-model z q = record { ends = assigned-model s (subst (Followed n ys ns c d base) q z .ends) .0 }
 
-    -- a rule, resolved with the one that forced the variable
-    pub force-failed : {r : Branch} {rule got : Rule} → value ≡ has y v → Followed n ys ns c d base r → r ≡ Branch.Implied rule
-        → Resolved base v (rule .yes) (rule .no) y m (got .yes) (got .no) → Followed n ys ns on off base (Branch.Implied got)
-    force-failed {r} {rule} {got} e z q o = record { ends = (it, o .placed on off c d under) }
-      where
-        failed : Ends n ys ns c d base (Branch.Implied rule)
-        failed = subst (Followed n ys ns c d base) q z .ends
+    module _ {r : Branch} {rule : Rule} {h : Bool} (z : Followed n ys ns c d base r) (q : r ≡ Branch.Implied rule) (k : HandedUp base (rule .yes) (rule .no) on off h) where
+      failed : Ends n ys ns c d base (Branch.Implied rule)
+      failed = subst (Followed n ys ns c d base) q z .ends
 
-        under : FailedUnder base v (rule .yes) (rule .no) y m on off c d
-        under = record { forces = t; set = rw e at s; base-set = f .following .base-set; placed = failed .1 }
+      acting : Acting (rule .yes) (rule .no) on off
+      acting = failed-acts (t .not-on) (t .not-off) s (f .following .base-set) (failed .1)
 
-        sizes : (got .yes < 2 ^ n) × (got .no < 2 ^ n)
-        sizes = o .below n (failed .0 .yes-below) (failed .0 .no-below) (f .implied .yes-below) (f .implied .no-below)
+      -- a rule that is handed up
+      pub force-handed : h ≡ true → Followed n ys ns on off base (Branch.Implied rule)
+      force-handed i = record { ends = (failed .0, subst (HandedUp base (rule .yes) (rule .no) on off) i k .said acting) }
 
-        it : Implied n ys ns (got .yes) (got .no)
-        it = record {
-          yes-below = sizes .0;
-          no-below = sizes .1;
-          obeyed = λ g h. o .obeyed on off c d under g (failed .0 .obeyed g h) (f .implied .obeyed g h);
-        }
+      -- a rule, resolved with the one that forced the variable
+      pub force-resolved : {got : Rule} → value ≡ has y v → h ≡ false → Resolvent v (rule .yes) (rule .no) y m (got .yes) (got .no)
+          → Followed n ys ns on off base (Branch.Implied got)
+      force-resolved {got} e i o = rw (o .yes-said, o .no-said) (record { ends = (it, record { place = inl (resolved-conflicts base (rule .yes) (rule .no) y m on off v c d t s e (f .following .base-set) (failed .1) stays) }) })
+        where
+          stays : Placed base (rule .yes) (rule .no) on off → ⊥
+          stays = subst (HandedUp base (rule .yes) (rule .no) on off) i k .said acting .1
+
+          it : Implied n ys ns (remove (union (rule .yes) y) v) (remove (union (rule .no) m) v)
+          it = record {
+            yes-below = remove-lt n _ v (union-lt n (rule .yes) y (failed .0 .yes-below) (f .implied .yes-below));
+            no-below = remove-lt n _ v (union-lt n (rule .no) m (failed .0 .no-below) (f .implied .no-below));
+            obeyed = λ g l.
+                resolved-obeyed base (rule .yes) (rule .no) y m on off v c d t s e (f .following .base-set) (failed .1) stays g (failed .0 .obeyed g l)
+                (f .implied .obeyed g l);
+          }
 
 -- ---- `try_variable`
 
@@ -176,24 +175,24 @@ module _ {n : ℕ} {ys ns : List ℕ} {on off base x : ℕ} where
     try-model z q = record { ends = assigned-model a (subst (Followed n ys ns c d s) q z .ends) .0 }
 
     module _ {r : Branch} {rule : Rule} (z : Followed n ys ns c d s r) (q : r ≡ Branch.Implied rule) where
-      failed : Ends n ys ns c d s (Branch.Implied rule)
-      failed = subst (Followed n ys ns c d s) q z .ends
+      tried : Ends n ys ns c d s (Branch.Implied rule)
+      tried = subst (Followed n ys ns c d s) q z .ends
 
-      acting : Acting (rule .yes) (rule .no) on off
-      acting = tried-acts (u .not-on) (u .not-off) a e (failed .1)
+      acting-after : Acting (rule .yes) (rule .no) on off
+      acting-after = failed-acts (u .not-on) (u .not-off) a (rw e (within-refl (union on off))) (tried .1)
 
       -- a rule that is handed up, or acted on here
       pub try-handed : {b : Bool} → HandedUp base (rule .yes) (rule .no) on off b → b ≡ true → Followed n ys ns on off base (Branch.Implied rule)
-      try-handed h i = record { ends = (failed .0, subst (HandedUp base (rule .yes) (rule .no) on off) i h .said acting) }
+      try-handed h i = record { ends = (tried .0, subst (HandedUp base (rule .yes) (rule .no) on off) i h .said acting-after) }
 
       pub try-forcing : {b : Bool} → HandedUp base (rule .yes) (rule .no) on off b → b ≡ false → Forcing n ys ns on off base (rule .yes) (rule .no)
       try-forcing h i =
-          record { following = f .following; implied = failed .0; unit = subst (HandedUp base (rule .yes) (rule .no) on off) i h .said acting }
+          record { following = f .following; implied = tried .0; unit = subst (HandedUp base (rule .yes) (rule .no) on off) i h .said acting-after .0 }
 
 -- the steps of the three functions that call each other
-pub ruleset follow-laws = (posed-posable, follow-conflict, follow-unit, follow-model, follow-trying)
+pub ruleset follow-laws = (posed-partial, follow-conflict, follow-unit, follow-model, follow-trying)
 
-pub ruleset force-laws = (force-some, force-lowest, force-following, force-less, force-model, force-failed)
+pub ruleset force-laws = (force-some, force-lowest, force-following, force-less, force-model, force-handed, force-resolved)
 
 pub ruleset try-laws = (try-unset, try-following, try-less, try-model, try-handed, try-forcing)
 
