@@ -22,6 +22,10 @@ or-member a b v e = by-cases (ℕ-discrete (bit a v) 1) inl (λ d. inr (omega (a
 pub or-none : (a b : ℕ) → union a b ≡ 0 → a ≡ 0
 or-none a b e = ext a 0 (λ v. omega (arith, bit-none (union a b) v e, bit-union a b v, bit-zero v))
 
+-- a literal that is neither false nor true is not set
+clear : (y on off v : ℕ) → bit (inter on y) v ≡ 0 → bit (diff y off) v + bit (union on off) v ≤ 1
+clear y on off v e = omega (arith, bit-diff y off v, bit-union on off v, bit-inter on y v, bit-le y v, bit-le on v, bit-le off v)
+
 module _ (y m on off : ℕ) where
   -- the variables of the true literals, and those of the literals that are not false
   abbrev trueOnes : ℕ
@@ -57,21 +61,15 @@ module _ (y m on off : ℕ) where
       no-no : (v : ℕ) → bit (inter off m) v ≡ 0
       no-no v = omega (arith, bit-none trueOnes v z, bit-union (inter on y) (inter off m) v)
 
-      yes-clear : (v : ℕ) → bit (diff y off) v + bit (union on off) v ≤ 1
-      yes-clear v = omega (arith, bit-diff y off v, bit-union on off v, no-yes v, bit-inter on y v, bit-le y v, bit-le on v, bit-le off v)
-
-      no-clear : (v : ℕ) → bit (diff m on) v + bit (union on off) v ≤ 1
-      no-clear v = omega (arith, bit-diff m on v, bit-union on off v, no-no v, bit-inter off m v, bit-le m v, bit-le on v, bit-le off v)
-
       unset : (v : ℕ) → bit notFalse v + bit (union on off) v ≤ 1
-      unset v = omega (arith, bit-union (diff y off) (diff m on) v, yes-clear v, no-clear v)
+      unset v = omega (arith, bit-union (diff y off) (diff m on) v, clear y on off v (no-yes v), clear m off on v (no-no v), bit-union off on v, bit-union on off v)
 
   -- one variable is left, in one of the masks
   forces-left : (v : ℕ) → trueOnes ≡ 0 → notFalse ≡ single v → inter notFalse (inter y m) ≡ 0 → Forces y m on off v
   forces-left v z s o =
       record {
-        not-on = omega (arith, here, bit-union on off v, clear);
-        not-off = omega (arith, here, bit-union on off v, clear);
+        not-on = omega (arith, here, bit-union on off v, unset);
+        not-off = omega (arith, here, bit-union on off v, unset);
         one-sign = omega (
           arith,
           here,
@@ -91,8 +89,8 @@ module _ (y m on off : ℕ) where
       here : bit notFalse v ≡ 1
       here = rw s (bit-single-same v)
 
-      clear : bit notFalse v + bit (union on off) v ≤ 1
-      clear = left-open z (λ e. absurd (omega (arith, here, bit-none notFalse v e))) .not-set .avoids v
+      unset : bit notFalse v + bit (union on off) v ≤ 1
+      unset = left-open z (λ e. absurd (omega (arith, here, bit-none notFalse v e))) .not-set .avoids v
 
       other : (u : ℕ) → (u ≡ v → ⊥) → bit notFalse u ≡ 0
       other u d = rw s (bit-single-other v u d)

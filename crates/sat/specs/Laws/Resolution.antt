@@ -1,7 +1,7 @@
 -- What the search rests on, over any number of variables and any rules, those with a variable in both masks and the empty rule included:
 -- implied (what is obeyed with two rules is obeyed with their resolvent), place (where the rule of a failed branch stands with a variable unset
 -- again), top (what an implied rule says of the models), model (where each rule has a true literal). Assumes nothing.
-use mathlib.Core.Path.{_≡_, refl, sym, ap, _∙_}
+use mathlib.Core.Path.{_≡_, sym, ap, _∙_}
 use mathlib.Core.Logic.{_≢_, _⊎_, inl, inr, by-cases}
 use mathlib.Core.Bool.{Bool, true, false, true≢false}
 use mathlib.Core.List.{List}
@@ -30,7 +30,7 @@ kept : (f y m c d v u : ℕ) → u ≢ v → bit y u ≤ bit c u → bit m u ≤
 kept f y m c d v u n p q (inl t) = obeys-yes f _ _ u (omega (arith, t .0, bit-remove-other c v u n, bit-le c u)) (t .1)
 kept f y m c d v u n p q (inr t) = obeys-no f _ _ u (omega (arith, t .0, bit-remove-other d v u n, bit-le d u)) (t .1)
 
--- a literal of v is not true
+-- the true literal is of another variable, where none of v is true
 other : (f y m v u : ℕ) → (TrueAt f y m v → ⊥) → TrueAt f y m u → u ≢ v
 other f y m v u n t e = n (rw (sym e) t)
 
@@ -69,32 +69,38 @@ module _ (f y m a b c d v : ℕ) (yc : Within y c) (ac : Within a c) (md : Withi
 in-either : (y m u : ℕ) → bit y u + bit m u ≡ 1 → bit (union y m) u ≡ 1
 in-either y m u e = omega (arith, bit-union y m u, bit-le y u, bit-le m u)
 
+-- one mask of a rule, which was false under d where only v was set beyond off: what does not stand at v is false under off
+module _ (y d off v : ℕ) (same : (u : ℕ) → u ≢ v → bit d u ≡ bit off u) where
+  stays-false : bit y v ≡ 0 → (u : ℕ) → bit y u ≤ bit d u → bit y u ≤ bit off u
+  stays-false e u h = by-cases (ℕ-discrete u v) (λ q. rw q (omega arith)) (λ q. omega (arith, same u q))
+
+  -- and so is a resolvent's mask
+  resolved-false : (a : ℕ) → Within y d → ((u : ℕ) → u ≢ v → bit a u ≤ bit off u) → Within (remove (union y a) v) off
+  resolved-false a w f =
+      record {
+        keeps = λ u.
+            by-cases (ℕ-discrete u v) (λ q. rw q (omega (arith, bit-remove-same (union y a) v)))
+            (λ q. omega (arith, bit-remove-other (union y a) v u q, bit-union y a u, w .keeps u, same u q, f u q));
+      }
+
 -- what was set at the last try does not hold a variable that is not set
 base-clear : (base on off v : ℕ) → bit on v ≡ 0 → bit off v ≡ 0 → Within base (union on off) → bit base v ≡ 0
 base-clear base on off v x z w = omega (arith, w .keeps v, bit-union on off v)
 
--- the rule of a failed branch, where v, set last, is unset again: it stands as before, or it forces v
+-- the rule of a failed branch, where v, set last, is unset again: it is a conflict that does not name v, or forces v, or forces what it forced
 module _ (base y m on off v c d : ℕ) {value : Bool} (x : bit on v ≡ 0) (z : bit off v ≡ 0) (s : Assigned on off v value c d) (k : bit base v ≡ 0) where
-  abbrev Back : Type 0
-  Back = Conflicts y m on off ⊎ ((u : ℕ) × Forces y m on off u × ((u ≡ v) ⊎ Within (remove (union y m) u) base))
+  same-on : (u : ℕ) → u ≢ v → bit c u ≡ bit on u
+  same-on u n = assigned-other s u n .0
 
-  -- what is false with v set is false without, but for v
-  yes-back : (u : ℕ) → u ≢ v → bit y u ≤ bit d u → bit y u ≤ bit off u
-  yes-back u n h = omega (arith, assigned-other s u n .1)
-
-  no-back : (u : ℕ) → u ≢ v → bit m u ≤ bit c u → bit m u ≤ bit on u
-  no-back u n h = omega (arith, assigned-other s u n .0)
+  same-off : (u : ℕ) → u ≢ v → bit d u ≡ bit off u
+  same-off u n = assigned-other s u n .1
 
   -- a conflict that does not name v, and one that does
   conflict-stays : Conflicts y m c d → bit (union y m) v ≡ 0 → Conflicts y m on off
   conflict-stays t e =
       record {
-        yes-false = record {
-          keeps = λ u. by-cases (ℕ-discrete u v) (λ q. rw q (omega (arith, bit-union y m v))) (λ q. yes-back u q (t .yes-false .keeps u));
-        };
-        no-false = record {
-          keeps = λ u. by-cases (ℕ-discrete u v) (λ q. rw q (omega (arith, bit-union y m v))) (λ q. no-back u q (t .no-false .keeps u));
-        };
+        yes-false = record { keeps = λ u. stays-false y d off v same-off (omega (arith, bit-union y m v)) u (t .yes-false .keeps u) };
+        no-false = record { keeps = λ u. stays-false m c on v same-on (omega (arith, bit-union y m v)) u (t .no-false .keeps u) };
       }
 
   conflict-forces : Conflicts y m c d → bit (union y m) v ≢ 0 → Forces y m on off v
@@ -103,8 +109,8 @@ module _ (base y m on off v c d : ℕ) {value : Bool} (x : bit on v ≡ 0) (z : 
         not-on = x;
         not-off = z;
         one-sign = omega (arith, bit-union y m v, t .yes-false .keeps v, t .no-false .keeps v, assigned-same s x z .1);
-        yes-false = λ u q. yes-back u q (t .yes-false .keeps u);
-        no-false = λ u q. no-back u q (t .no-false .keeps u);
+        yes-false = λ u q. omega (arith, t .yes-false .keeps u, same-off u q);
+        no-false = λ u q. omega (arith, t .no-false .keeps u, same-on u q);
       }
 
   -- a rule within base but for u: v is not in it
@@ -121,25 +127,18 @@ module _ (base y m on off v c d : ℕ) {value : Bool} (x : bit on v ≡ 0) (z : 
           not-on = sym (assigned-other s u (λ e. not-last (sym e)) .0) ∙ t .not-on;
           not-off = sym (assigned-other s u (λ e. not-last (sym e)) .1) ∙ t .not-off;
           one-sign = t .one-sign;
-          yes-false = λ a q.
-              by-cases (ℕ-discrete a v) (λ e. rw e (omega (arith, absent, bit-union y m v))) (λ e. yes-back a e (t .yes-false a q));
-          no-false = λ a q.
-              by-cases (ℕ-discrete a v) (λ e. rw e (omega (arith, absent, bit-union y m v))) (λ e. no-back a e (t .no-false a q));
+          yes-false = λ a q. stays-false y d off v same-off (omega (arith, absent, bit-union y m v)) a (t .yes-false a q);
+          no-false = λ a q. stays-false m c on v same-on (omega (arith, absent, bit-union y m v)) a (t .no-false a q);
         }
 
-  back : Stands base y m c d → Back
+  back : Stands base y m c d → Acts y m on off
   back (inl t) =
-      by-cases (ℕ-discrete (bit (union y m) v) 0) (λ e. inl (conflict-stays t e)) (λ e. inr (v, conflict-forces t e, inl refl))
-  back (inr t) = inr (t .0, forces-stays (t .0) (t .1) (t .2), inr (t .2))
+      by-cases (ℕ-discrete (bit (union y m) v) 0) (λ e. inl (conflict-stays t e)) (λ e. inr (record { forced = v; forces = conflict-forces t e }))
+  back (inr t) = inr (record { forced = t .0; forces = forces-stays (t .0) (t .1) (t .2) })
 
--- with v unset again, the rule of a failed branch acts
 pub failed-acts : {base y m on off v c d : ℕ} {value : Bool} → bit on v ≡ 0 → bit off v ≡ 0 → Assigned on off v value c d → Within base (union on off)
     → Placed base y m c d → Acting y m on off
-failed-acts {base} {y} {m} {on} {off} {v} {c} {d} x z s w p = record { acts = go (back base y m on off v c d x z s (base-clear base on off v x z w) (p .place)) }
-  where
-    go : Back base y m on off v c d x z s (base-clear base on off v x z w) → Acts y m on off
-    go (inl t) = inl t
-    go (inr t) = inr (record { forced = t .0; forces = t .1 })
+failed-acts {base} {y} {m} {on} {off} {v} {c} {d} x z s w p = record { acts = back base y m on off v c d x z s (base-clear base on off v x z w) (p .place) }
 
 -- ---- a rule resolved with the one that forced the variable
 
@@ -192,32 +191,8 @@ module _ (base y m a b on off v c d : ℕ) {value : Bool} (t : Forces a b on off
   pub resolved-conflicts : Conflicts (remove (union y a) v) (remove (union m b) v) on off
   resolved-conflicts =
       record {
-        yes-false = record {
-          keeps = λ u.
-              by-cases (ℕ-discrete u v) (λ i. rw i (omega (arith, bit-remove-same (union y a) v)))
-              (λ i.
-              omega (
-                arith,
-                bit-remove-other (union y a) v u i,
-                bit-union y a u,
-                conflict-there .yes-false .keeps u,
-                assigned-other s u i .1,
-                t .yes-false u i,
-              ));
-        };
-        no-false = record {
-          keeps = λ u.
-              by-cases (ℕ-discrete u v) (λ i. rw i (omega (arith, bit-remove-same (union m b) v)))
-              (λ i.
-              omega (
-                arith,
-                bit-remove-other (union m b) v u i,
-                bit-union m b u,
-                conflict-there .no-false .keeps u,
-                assigned-other s u i .0,
-                t .no-false u i,
-              ));
-        };
+        yes-false = resolved-false y d off v (λ u i. assigned-other s u i .1) a (conflict-there .yes-false) (t .yes-false);
+        no-false = resolved-false m c on v (λ u i. assigned-other s u i .0) b (conflict-there .no-false) (t .no-false);
       }
 
 -- ---- `handed_up`
