@@ -74,63 +74,6 @@ force-claims t = (unset-of-reads.Asked, unset-of-reads.Learnt, lowest-reads.Aske
 abbrev try-variable-claims : ℕ → try-variable-lts.Claims
 try-variable-claims t = (choose-reads.Asked, choose-reads.Learnt, has-reads.Asked, has-reads.Learnt, assign-reads.Asked, assign-reads.Learnt, union-reads.Asked, union-reads.Learnt, follow-below t, follow.Post, handed-up-reads.Asked, handed-up-reads.Learnt, force-below t, force.Post)
 
-follow-scan-requires : (t : ℕ) → follow-lts.Need-scan-requires (follow-claims t) (follow-at t) follow.Post
-follow-scan-requires t c κs = search (needs, follow-laws)
-
-follow-enum-known-rule : (t : ℕ) → follow-lts.Need-enum-known-rule (follow-claims t) (follow-at t) follow.Post
-follow-enum-known-rule t c = search (needs, follow-laws)
-
-follow-enum-known-rule-2 : (t : ℕ) → follow-lts.Need-enum-known-rule-2 (follow-claims t) (follow-at t) follow.Post
-follow-enum-known-rule-2 t c = search (needs, follow-laws)
-
-follow-force-requires : (t : ℕ) → follow-lts.Need-force-requires (follow-claims t) (follow-at t) follow.Post
-follow-force-requires t c κs = search (needs, follow-laws)
-
-follow-enum-known-pending : (t : ℕ) → follow-lts.Need-enum-known-pending (follow-claims t) (follow-at t) follow.Post
-follow-enum-known-pending t c = search (needs, follow-laws)
-
-follow-complete-requires : (t : ℕ) → follow-lts.Need-complete-requires (follow-claims t) (follow-at t) follow.Post
-follow-complete-requires t c κs = search (needs, follow-laws)
-
-follow-returns : (t : ℕ) → follow-lts.Need-returns (follow-claims t) (follow-at t) follow.Post
-follow-returns t c = search (needs, follow-laws)
-
-follow-try-variable-requires : (t : ℕ) → follow-lts.Need-try-variable-requires (follow-claims t) (follow-at t) follow.Post
-follow-try-variable-requires t c κs = search (needs, follow-laws)
-
-follow-returns-2 : (t : ℕ) → follow-lts.Need-returns-2 (follow-claims t) (follow-at t) follow.Post
-follow-returns-2 t c = search (needs, follow-laws)
-
-follow-returns-3 : (t : ℕ) → follow-lts.Need-returns-3 (follow-claims t) (follow-at t) follow.Post
-follow-returns-3 t c = search (needs, follow-laws)
-
-follow-returns-4 : (t : ℕ) → follow-lts.Need-returns-4 (follow-claims t) (follow-at t) follow.Post
-follow-returns-4 t c = search (needs, follow-laws)
-
-force-unset-of-requires : (t : ℕ) → force-lts.Need-unset-of-requires (force-claims t) (force-at t) force.Post
-force-unset-of-requires t c κs = search (needs, force-laws)
-
-force-lowest-requires : (t : ℕ) → force-lts.Need-lowest-requires (force-claims t) (force-at t) force.Post
-force-lowest-requires t c κs = search (needs, force-laws)
-
-force-has-requires : (t : ℕ) → force-lts.Need-has-requires (force-claims t) (force-at t) force.Post
-force-has-requires t c κs = search (needs, force-laws)
-
-force-assign-requires : (t : ℕ) → force-lts.Need-assign-requires (force-claims t) (force-at t) force.Post
-force-assign-requires t c κs = search (needs, force-laws)
-
-force-follow-requires : (t : ℕ) → force-lts.Need-follow-requires (force-claims t) (force-at t) force.Post
-force-follow-requires t c κs = search (needs, force-laws)
-
-force-enum-known-m : (t : ℕ) → force-lts.Need-enum-known-m (force-claims t) (force-at t) force.Post
-force-enum-known-m t c = search (needs, force-laws)
-
-force-enum-known-rule : (t : ℕ) → force-lts.Need-enum-known-rule (force-claims t) (force-at t) force.Post
-force-enum-known-rule t c = search (needs, force-laws)
-
-force-handed-up-requires : (t : ℕ) → force-lts.Need-handed-up-requires (force-claims t) (force-at t) force.Post
-force-handed-up-requires t c κs = search (needs, force-laws)
-
 force-returns : (t : ℕ) → force-lts.Need-returns (force-claims t) (force-at t) force.Post
 force-returns t c =
     let q = c .before .before .before .before .before in
@@ -140,42 +83,6 @@ force-returns t c =
     (c .before .before .before .rule .given .1)
     (c .before .handed-up .ensures)
     (c .if1 .taken)
-
-force-resolve-requires : (t : ℕ) → force-lts.Need-resolve-requires (force-claims t) (force-at t) force.Post
-force-resolve-requires t c κs = search (needs, force-laws)
-
-force-returns-2 : (t : ℕ) → force-lts.Need-returns-2 (force-claims t) (force-at t) force.Post
-force-returns-2 t c = search (needs, force-laws)
-
-force-returns-3 : (t : ℕ) → force-lts.Need-returns-3 (force-claims t) (force-at t) force.Post
-force-returns-3 t c = search (needs, force-laws)
-
-try-variable-choose-requires : (t : ℕ) → try-variable-lts.Need-choose-requires (try-variable-claims t) (try-variable-at t) try-variable.Post
-try-variable-choose-requires t c κs = search (needs, try-laws)
-
-try-variable-has-requires : (t : ℕ) → try-variable-lts.Need-has-requires (try-variable-claims t) (try-variable-at t) try-variable.Post
-try-variable-has-requires t c κs = search (needs, try-laws)
-
-try-variable-assign-requires : (t : ℕ) → try-variable-lts.Need-assign-requires (try-variable-claims t) (try-variable-at t) try-variable.Post
-try-variable-assign-requires t c κs = search (needs, try-laws)
-
-try-variable-union-requires : (t : ℕ) → try-variable-lts.Need-union-requires (try-variable-claims t) (try-variable-at t) try-variable.Post
-try-variable-union-requires t c κs = search (needs, try-laws)
-
-try-variable-follow-requires : (t : ℕ) → try-variable-lts.Need-follow-requires (try-variable-claims t) (try-variable-at t) try-variable.Post
-try-variable-follow-requires t c κs = search (needs, try-laws)
-
-try-variable-enum-known-m : (t : ℕ) → try-variable-lts.Need-enum-known-m (try-variable-claims t) (try-variable-at t) try-variable.Post
-try-variable-enum-known-m t c = search (needs, try-laws)
-
-try-variable-enum-known-rule : (t : ℕ) → try-variable-lts.Need-enum-known-rule (try-variable-claims t) (try-variable-at t) try-variable.Post
-try-variable-enum-known-rule t c = search (needs, try-laws)
-
-try-variable-handed-up-requires : (t : ℕ) → try-variable-lts.Need-handed-up-requires (try-variable-claims t) (try-variable-at t) try-variable.Post
-try-variable-handed-up-requires t c κs = search (needs, try-laws)
-
-try-variable-returns : (t : ℕ) → try-variable-lts.Need-returns (try-variable-claims t) (try-variable-at t) try-variable.Post
-try-variable-returns t c = search (needs, try-laws)
 
 try-variable-force-requires : (t : ℕ) → try-variable-lts.Need-force-requires (try-variable-claims t) (try-variable-at t) try-variable.Post
 try-variable-force-requires t c κs =
@@ -189,54 +96,21 @@ try-variable-force-requires t c κs =
           (c .if1 .left),
     )
 
-try-variable-returns-2 : (t : ℕ) → try-variable-lts.Need-returns-2 (try-variable-claims t) (try-variable-at t) try-variable.Post
-try-variable-returns-2 t c = search (needs, try-laws)
-
-try-variable-returns-3 : (t : ℕ) → try-variable-lts.Need-returns-3 (try-variable-claims t) (try-variable-at t) try-variable.Post
-try-variable-returns-3 t c = search (needs, try-laws)
-
 pub +follow+force+try-variable-spec : {M : Type 1} → statement M
-+follow+force+try-variable-spec = close μ-follow μ-force μ-try-variable (λ t. follow-lts.spec (follow-claims t)
-    (follow-at t)
-    follow.Post
-    (follow-scan-requires t)
-    (follow-enum-known-rule t)
-    (follow-enum-known-rule-2 t)
-    (follow-force-requires t)
-    (follow-enum-known-pending t)
-    (follow-complete-requires t)
-    (follow-returns t)
-    (follow-try-variable-requires t)
-    (follow-returns-2 t)
-    (follow-returns-3 t)
-    (follow-returns-4 t))
-    (λ t. force-lts.spec (force-claims t)
-    (force-at t)
-    force.Post
-    (force-unset-of-requires t)
-    (force-lowest-requires t)
-    (force-has-requires t)
-    (force-assign-requires t)
-    (force-follow-requires t)
-    (force-enum-known-m t)
-    (force-enum-known-rule t)
-    (force-handed-up-requires t)
-    (force-returns t)
-    (force-resolve-requires t)
-    (force-returns-2 t)
-    (force-returns-3 t))
-    λ t. try-variable-lts.spec (try-variable-claims t)
-    (try-variable-at t)
-    try-variable.Post
-    (try-variable-choose-requires t)
-    (try-variable-has-requires t)
-    (try-variable-assign-requires t)
-    (try-variable-union-requires t)
-    (try-variable-follow-requires t)
-    (try-variable-enum-known-m t)
-    (try-variable-enum-known-rule t)
-    (try-variable-handed-up-requires t)
-    (try-variable-returns t)
-    (try-variable-force-requires t)
-    (try-variable-returns-2 t)
-    (try-variable-returns-3 t)
++follow+force+try-variable-spec =
+    close μ-follow μ-force μ-try-variable
+    (λ t. follow-lts.spec (follow-claims t) (follow-at t) follow.Post
+    (λ c κs. search (needs, follow-laws)) (λ c. search (needs, follow-laws)) (λ c. search (needs, follow-laws))
+    (λ c κs. search (needs, follow-laws)) (λ c. search (needs, follow-laws)) (λ c κs. search (needs, follow-laws))
+    (λ c. search (needs, follow-laws)) (λ c κs. search (needs, follow-laws)) (λ c. search (needs, follow-laws))
+    (λ c. search (needs, follow-laws)) (λ c. search (needs, follow-laws)))
+    (λ t. force-lts.spec (force-claims t) (force-at t) force.Post
+    (λ c κs. search (needs, force-laws)) (λ c κs. search (needs, force-laws)) (λ c κs. search (needs, force-laws))
+    (λ c κs. search (needs, force-laws)) (λ c κs. search (needs, force-laws)) (λ c. search (needs, force-laws))
+    (λ c. search (needs, force-laws)) (λ c κs. search (needs, force-laws)) (force-returns t)
+    (λ c κs. search (needs, force-laws)) (λ c. search (needs, force-laws)) (λ c. search (needs, force-laws)))
+    (λ t. try-variable-lts.spec (try-variable-claims t) (try-variable-at t) try-variable.Post
+    (λ c κs. search (needs, try-laws)) (λ c κs. search (needs, try-laws)) (λ c κs. search (needs, try-laws))
+    (λ c κs. search (needs, try-laws)) (λ c κs. search (needs, try-laws)) (λ c. search (needs, try-laws))
+    (λ c. search (needs, try-laws)) (λ c κs. search (needs, try-laws)) (λ c. search (needs, try-laws))
+    (try-variable-force-requires t) (λ c. search (needs, try-laws)) (λ c. search (needs, try-laws)))

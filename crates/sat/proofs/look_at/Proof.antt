@@ -1,5 +1,6 @@
 -- `sat::look_at` meets its contract, by the laws of a look at one rule. Assumes nothing.
-use Rattle.sat.specs.Laws.Looks.{or-none, look-met, look-open, look-quick, look-conflict, look-unit}
+use Rattle.sets.specs.Laws.Subset.{union-none}
+use Rattle.sat.specs.Laws.Looks.{look-met, look-open, look-quick, look-conflict, look-unit}
 use native.Mathlib.Omega.{arith}
 use borrow.Author.Needs.{needs}
 use Rattle.sat.proofs.look_at.Statement.{statement}
@@ -35,20 +36,20 @@ returns-4 : tie.Need-returns-4
 returns-4 c =
     let a = c .before .before .before in
     let d = a .before .before .before in
-    look-open (d .before .difference .ensures) (d .difference2 .ensures) (or-none _ _ (a .before .if1 .left)) (a .if3 .left)
+    look-open (d .before .difference .ensures) (d .difference2 .ensures) (union-none _ _ (a .before .if1 .left) .0) (a .if3 .left)
 
 returns-5 : tie.Need-returns-5
 returns-5 c =
     let a = c .before .before .before .before .before in
     let d = a .before .before .before in
-    look-open (d .before .difference .ensures) (d .difference2 .ensures) (or-none _ _ (a .before .if1 .left)) (a .if3 .left)
+    look-open (d .before .difference .ensures) (d .difference2 .ensures) (union-none _ _ (a .before .if1 .left) .0) (a .if3 .left)
 
 returns-6 : tie.Need-returns-6
 returns-6 c =
     let s = c .before .before .before in
     let a = s .before .before in
     let d = a .before .before .before in
-    look-unit (d .before .difference .ensures) (d .difference2 .ensures) (s .before .lowest .result) (or-none _ _ (a .before .if1 .left))
+    look-unit (d .before .difference .ensures) (d .difference2 .ensures) (s .before .lowest .result) (union-none _ _ (a .before .if1 .left) .0)
     (omega (arith, c .before .before .if4 .left, s .single .ensures))
     (omega (arith, c .if5 .left))
 

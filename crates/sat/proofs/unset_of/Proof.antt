@@ -5,17 +5,10 @@ use borrow.Author.Needs.{needs}
 use Rattle.sat.proofs.unset_of.Statement.{statement}
 use Rattle.sat.proofs.unset_of.Tie as tie
 
-union-requires : tie.Need-union-requires
-union-requires c κs = search needs
-
-union-requires-2 : tie.Need-union-requires-2
-union-requires-2 c κs = search needs
-
-difference-requires : tie.Need-difference-requires
-difference-requires c κs = search needs
-
 returns : tie.Need-returns
 returns c = c .difference .ensures ∙ ap₂ diff (c .before .union2 .ensures) (c .before .before .union .ensures)
 
 pub unset-of-spec : {M : Type 1} → statement M
-unset-of-spec = tie.close (tie.spec union-requires union-requires-2 difference-requires returns)
+unset-of-spec =
+    tie.close (tie.spec
+    (λ c κs. search needs) (λ c κs. search needs) (λ c κs. search needs) returns)

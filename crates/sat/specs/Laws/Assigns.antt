@@ -11,7 +11,7 @@ use Rattle.sets.specs.Laws.Bits.{bit-le, bit-insert-same, bit-insert-other, uni
 use Rattle.sets.specs.Laws.Subset.{has-true, has-false, apart-symm, within-insert, insert-within, apart-insert, insert-apart}
 use Rattle.sets.specs.Laws.Count.{ones-union, ones-insert}
 use Rattle.sat.specs.Meaning.{Model}
-use Rattle.sat.specs.Contracts.{Posed, digit, SetTo, Assigned, unset}
+use Rattle.sat.specs.Contracts.{Posed, digit, SetTo, Assigned, Unset, unset}
 
 -- ---- `assign`
 
@@ -106,9 +106,9 @@ count-le : (n : ℕ) (ys ns : List ℕ) (on off : ℕ) → Posed n ys ns on off 
 count-le n ys ns on off p = omega (arith, ones-union on off (p .apart), ones-le n (union on off) (union-lt n on off (p .on-below) (p .off-below)))
 
 module _ {n : ℕ} {ys ns : List ℕ} {on off v a b : ℕ} {value : Bool} where
-  pub posed-assigned : Posed n ys ns on off → v < n → bit on v ≡ 0 → bit off v ≡ 0 → Assigned on off v value a b → Posed n ys ns a b
-  posed-assigned p h x z s = set-to-posed n ys ns on off v p h x z value a b (s .said)
+  pub posed-assigned : Posed n ys ns on off → Unset n on off v → Assigned on off v value a b → Posed n ys ns a b
+  posed-assigned p u s = set-to-posed n ys ns on off v p (u .below) (u .not-on) (u .not-off) value a b (s .said)
 
-  pub unset-less : Posed n ys ns on off → v < n → bit on v ≡ 0 → bit off v ≡ 0 → Assigned on off v value a b → suc (unset n a b) ≡ unset n on off
-  unset-less p h x z s =
-      omega (arith, count-le n ys ns a b (posed-assigned p h x z s), set-to-count n ys ns on off v p h x z value a b (s .said))
+  pub unset-less : Posed n ys ns on off → Unset n on off v → Assigned on off v value a b → suc (unset n a b) ≡ unset n on off
+  unset-less p u s =
+      omega (arith, count-le n ys ns a b (posed-assigned p u s), set-to-count n ys ns on off v p (u .below) (u .not-on) (u .not-off) value a b (s .said))

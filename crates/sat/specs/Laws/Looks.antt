@@ -18,10 +18,6 @@ bit-none m v e = rw e (bit-zero v)
 or-member : (a b v : ℕ) → bit (union a b) v ≡ 1 → (bit a v ≡ 1) ⊎ (bit b v ≡ 1)
 or-member a b v e = by-cases (ℕ-discrete (bit a v) 1) inl (λ d. inr (omega (arith, bit-union a b v, bit-le a v, bit-le b v)))
 
--- where the quick test finds nothing, no literal is true
-pub or-none : (a b : ℕ) → union a b ≡ 0 → a ≡ 0
-or-none a b e = ext a 0 (λ v. omega (arith, bit-none (union a b) v e, bit-union a b v, bit-zero v))
-
 -- a literal that is neither false nor true is not set
 clear : (y on off v : ℕ) → bit (inter on y) v ≡ 0 → bit (diff y off) v + bit (union on off) v ≤ 1
 clear y on off v e = omega (arith, bit-diff y off v, bit-union on off v, bit-inter on y v, bit-le y v, bit-le on v, bit-le off v)

@@ -11,7 +11,7 @@ use native.Mathlib.Omega.{arith}
 use lib.ListN.{length}
 use Rattle.sets.specs.Sets.{bit, has, union, diff, remove, subset, Within, Lowest}
 use Rattle.sets.specs.Laws.Bits.{bit-le, bit-zero, bit-union, bit-diff, bit-remove-same, bit-remove-other, pos-of-member, ext}
-use Rattle.sets.specs.Laws.Subset.{subset-within, within-subset, in-union}
+use Rattle.sets.specs.Laws.Subset.{subset-within, within-subset, in-union, in-union-right}
 use Rattle.literals.specs.Truth.{obeysMasks}
 use Rattle.literals.specs.Laws.{TrueLiteral, obeys-yes, obeys-no, obeys-some}
 use Rattle.sat.specs.Meaning.{Model}
@@ -178,14 +178,8 @@ module _ (base y m a b on off v c d : ℕ) {value : Bool} (t : Forces a b on off
   pub resolved-obeyed : (f : ℕ) → obeysMasks f y m ≡ true → obeysMasks f a b ≡ true → obeysMasks f (remove (union y a) v) (remove (union m b) v) ≡ true
   resolved-obeyed f h k =
       by-cases (ℕ-discrete (bit a v) 1)
-      (λ q. resolvent f y m a b (union y a) (union m b) v (in-union y a) yes-too (in-union m b) no-too (omega (arith, opposite-yes, t .one-sign)) (omega (arith, t .one-sign)) h k)
-      (λ q. resolvent f a b y m (union y a) (union m b) v yes-too (in-union y a) no-too (in-union m b) (omega (arith, t .one-sign)) (omega (arith, opposite-no, t .one-sign)) k h)
-    where
-      yes-too : Within a (union y a)
-      yes-too = record { keeps = λ u. omega (arith, bit-union y a u) }
-
-      no-too : Within b (union m b)
-      no-too = record { keeps = λ u. omega (arith, bit-union m b u) }
+      (λ q. resolvent f y m a b (union y a) (union m b) v (in-union y a) (in-union-right y a) (in-union m b) (in-union-right m b) (omega (arith, opposite-yes, t .one-sign)) (omega (arith, t .one-sign)) h k)
+      (λ q. resolvent f a b y m (union y a) (union m b) v (in-union-right y a) (in-union y a) (in-union-right m b) (in-union m b) (omega (arith, t .one-sign)) (omega (arith, opposite-no, t .one-sign)) k h)
 
   -- and it is a conflict with v unset
   pub resolved-conflicts : Conflicts (remove (union y a) v) (remove (union m b) v) on off

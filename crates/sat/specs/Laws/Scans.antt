@@ -9,7 +9,7 @@ use lib.ListN.{length}
 use lib.Pow.{pow-pos}
 use Rattle.sets.specs.Sets.{union, Lowest}
 use Rattle.sets.specs.Laws.Bits.{bit-le, bit-zero, bit-union, union-lt}
-use Rattle.sets.specs.Laws.Subset.{within-refl, within-le, in-union}
+use Rattle.sets.specs.Laws.Subset.{within-refl, within-le, union-none}
 use Rattle.sat.specs.Contracts.{LeftOpen, Looked, RuleAt, Open, ToTry, Chosen, Gives, Passed, LeftBetween, LeftByAll}
 use Rattle.sat.specs.declared.Look.{Look}
 use Rattle.sat.specs.declared.Look.the-variants as Look
@@ -24,14 +24,6 @@ open-none ys ns on off =
       below = λ n p q. omega (arith, pow-pos n);
       not-set = record { avoids = λ v. omega (arith, bit-zero v, bit-le (union on off) v) };
     }
-
--- two sets, and nothing in either
-none-left : (x l : ℕ) → union x l ≡ 0 → x ≡ 0
-none-left x l e = omega (arith, within-le x (union x l) (in-union x l))
-
-none-right : (x l : ℕ) → union x l ≡ 0 → l ≡ 0
-none-right x l e =
-    omega (arith, within-le l (union x l) (record { keeps = λ v. omega (arith, bit-union x l v) }))
 
 -- ---- `scan_range`
 
@@ -74,8 +66,8 @@ module _ {ys ns : List ℕ} {on off j y m : ℕ} {r : Look} where
         none-met = λ d.
             record {
               each-met = λ k f g.
-                  by-cases (ℕ-discrete k j) (λ s. rw (s, sym (a .yes-there), sym (a .no-there)) (t .none-met (none-right x l d)))
-                  (λ s. b .none-met (none-left x l d) .each-met k f (omega arith));
+                  by-cases (ℕ-discrete k j) (λ s. rw (s, sym (a .yes-there), sym (a .no-there)) (t .none-met (union-none x l d .1)))
+                  (λ s. b .none-met (union-none x l d .0) .each-met k f (omega arith));
             };
       })
     where

@@ -10,7 +10,7 @@ use Rattle.sets.specs.Sets.{bit, has, union, inter, diff, remove, compl, Within
 use Rattle.sets.specs.Laws.Bits.{bit-le, bit-union, bit-inter, bit-compl, bit-compl-high, union-lt, inter-lt, compl-lt, remove-lt, member-lt}
 use Rattle.sets.specs.Laws.Subset.{within-refl, in-union}
 use Rattle.sat.specs.Meaning.{Model, NoModel}
-use Rattle.sat.specs.Contracts.{Posed, Assigned, Unset, unset, Forces, Chosen, Passed, LeftByAll, Implied, Acting, Placed, HandedUp, Resolvent, Following, Forcing, Trying, Ends, Followed, PartialOf, Completes, Keeps, Searched}
+use Rattle.sat.specs.Contracts.{Posed, Assigned, Unset, unset, Forces, Chosen, Passed, LeftByAll, Implied, Acting, Placed, Hands, HandedUp, Resolvent, Following, Forcing, Trying, Ends, Followed, PartialOf, Completes, Keeps, Searched}
 use Rattle.sat.specs.Laws.Assigns.{digit-has, assigned-other, model-assigned, assigned-model, posed-assigned, unset-less}
 use Rattle.sat.specs.Laws.Resolution.{placed-acts, failed-acts, resolved-obeyed, resolved-conflicts, left-some, lowest-forced, none-left, some-left, listed-implied, conflict-none, forced-value, met-model}
 use Rattle.sat.specs.declared.Rule.{Rule}
@@ -83,26 +83,50 @@ module _ {n : ℕ} {ys ns : List ℕ} {on off base : ℕ} {p : Pass} where
       let t = subst (Passed (LeftByAll ys ns on off) ys ns on off) e s .said in
       record { following = f; to-try = record { opened = t .opened; some = omega arith } }
 
+-- ---- a variable set, and unset again where the branch failed: `force` and `try_variable`
+
+-- a model of the branch is one without the variable set
+pub branch-model : {n : ℕ} {ys ns : List ℕ} {on off v c d s base g : ℕ} {value : Bool} {r : Branch} → Assigned on off v value c d → Followed n ys ns c d s r
+    → r ≡ Branch.Model g → Followed n ys ns on off base (Branch.Model g)
+branch-model {n} {ys} {ns} {on} {off} {v} {c} {d} {s} a z q = record { ends = assigned-model a (subst (Followed n ys ns c d s) q z .ends) .0 }
+
+module _ {n : ℕ} {ys ns : List ℕ} {on off v c d s : ℕ} {value : Bool} (p : Posed n ys ns on off) (u : Unset n on off v) (a : Assigned on off v value c d)
+    (w : Within s (union on off)) where
+  -- what was set stays set
+  set-following : Following n ys ns c d s
+  set-following =
+      record {
+        posed = posed-assigned p u a;
+        base-set = record {
+          keeps = λ b.
+              by-cases (ℕ-discrete b v)
+              (λ e. rw e (omega (arith, w .keeps v, bit-union on off v, u .not-on, u .not-off)))
+              (λ e. omega (arith, w .keeps b, bit-union on off b, bit-union c d b, assigned-other a b e .0, assigned-other a b e .1));
+        };
+      }
+
+  module _ {r : Branch} {rule : Rule} (z : Followed n ys ns c d s r) (q : r ≡ Branch.Implied rule) where
+    failed : Ends n ys ns c d s (Branch.Implied rule)
+    failed = subst (Followed n ys ns c d s) q z .ends
+
+    -- the rule of the branch, handed up or not
+    handed : {base : ℕ} {h b : Bool} → HandedUp base (rule .yes) (rule .no) on off h → h ≡ b → Hands base (rule .yes) (rule .no) on off b
+    handed {base} k i =
+        subst (HandedUp base (rule .yes) (rule .no) on off) i k .said (failed-acts (u .not-on) (u .not-off) a w (failed .1))
+
+    handed-followed : {base : ℕ} {h : Bool} → HandedUp base (rule .yes) (rule .no) on off h → h ≡ true → Followed n ys ns on off base (Branch.Implied rule)
+    handed-followed k i = record { ends = (failed .0, handed k i) }
+
 -- ---- `force`
 
--- a variable set: base stays set
-set-following : {n : ℕ} {ys ns : List ℕ} {on off v c d base : ℕ} {value : Bool} → Posed n ys ns on off → Within base (union on off) → v < n → bit on v ≡ 0
-    → bit off v ≡ 0 → Assigned on off v value c d → Following n ys ns c d base
-set-following {n} {ys} {ns} {on} {off} {v} {c} {d} {base} p w h x z s =
-    record {
-      posed = posed-assigned p h x z s;
-      base-set = record {
-        keeps = λ u.
-            by-cases (ℕ-discrete u v)
-            (λ e. rw e (omega (arith, w .keeps v, bit-union on off v)))
-            (λ e. omega (arith, w .keeps u, bit-union on off u, bit-union c d u, assigned-other s u e .0, assigned-other s u e .1));
-      };
-    }
-
 -- the forced variable is one of the n
-forced-below : {n : ℕ} {ys ns : List ℕ} {y m on off v : ℕ} → Implied n ys ns y m → Forces y m on off v → v < n
-forced-below {n} {ys} {ns} {y} {m} {on} {off} {v} i t =
-    by-cases (ℕ-discrete (bit y v) 1) (λ e. member-lt n y v e (i .yes-below)) (λ e. member-lt n m v (omega (arith, t .one-sign)) (i .no-below))
+forced-unset : {n : ℕ} {ys ns : List ℕ} {y m on off v : ℕ} → Implied n ys ns y m → Forces y m on off v → Unset n on off v
+forced-unset {n} {ys} {ns} {y} {m} {on} {off} {v} i t =
+    record {
+      below = by-cases (ℕ-discrete (bit y v) 1) (λ e. member-lt n y v e (i .yes-below)) (λ e. member-lt n m v (omega (arith, t .one-sign)) (i .no-below));
+      not-on = t .not-on;
+      not-off = t .not-off;
+    }
 
 module _ {n : ℕ} {ys ns : List ℕ} {on off base y m : ℕ} where
   pub force-some : {l : ℕ} → Forcing n ys ns on off base y m → l ≡ diff (union y m) (union on off) → 0 < l
@@ -113,41 +137,39 @@ module _ {n : ℕ} {ys ns : List ℕ} {on off base y m : ℕ} where
 
   module _ {v c d : ℕ} {value : Bool} (f : Forcing n ys ns on off base y m) (t : Forces y m on off v) (s : Assigned on off v value c d) where
     pub force-following : Following n ys ns c d base
-    force-following = set-following (f .following .posed) (f .following .base-set) (forced-below (f .implied) t) (t .not-on) (t .not-off) s
+    force-following = set-following (f .following .posed) (forced-unset (f .implied) t) s (f .following .base-set)
 
     pub force-less : {k : ℕ} → 3 * unset n on off ≡ k → 3 * unset n c d + 2 < k
-    force-less q =
-        omega (arith, unset-less {a = c} {b = d} (f .following .posed) (forced-below (f .implied) t) (t .not-on) (t .not-off) s)
-
-    -- a model
-    pub force-model : {r : Branch} {g : ℕ} → Followed n ys ns c d base r → r ≡ Branch.Model g → Followed n ys ns on off base (Branch.Model g)
-    force-model z q = record { ends = assigned-model s (subst (Followed n ys ns c d base) q z .ends) .0 }
+    force-less q = omega (arith, unset-less {a = c} {b = d} (f .following .posed) (forced-unset (f .implied) t) s)
 
     module _ {r : Branch} {rule : Rule} {h : Bool} (z : Followed n ys ns c d base r) (q : r ≡ Branch.Implied rule) (k : HandedUp base (rule .yes) (rule .no) on off h) where
-      failed : Ends n ys ns c d base (Branch.Implied rule)
-      failed = subst (Followed n ys ns c d base) q z .ends
-
-      acting : Acting (rule .yes) (rule .no) on off
-      acting = failed-acts (t .not-on) (t .not-off) s (f .following .base-set) (failed .1)
-
       -- a rule that is handed up
       pub force-handed : h ≡ true → Followed n ys ns on off base (Branch.Implied rule)
-      force-handed i = record { ends = (failed .0, subst (HandedUp base (rule .yes) (rule .no) on off) i k .said acting) }
+      force-handed i = handed-followed (f .following .posed) (forced-unset (f .implied) t) s (f .following .base-set) z q k i
 
       -- a rule, resolved with the one that forced the variable
       pub force-resolved : {got : Rule} → value ≡ has y v → h ≡ false → Resolvent v (rule .yes) (rule .no) y m (got .yes) (got .no)
           → Followed n ys ns on off base (Branch.Implied got)
-      force-resolved {got} e i o = rw (o .yes-said, o .no-said) (record { ends = (it, record { place = inl (resolved-conflicts base (rule .yes) (rule .no) y m on off v c d t s e (f .following .base-set) (failed .1) stays) }) })
+      force-resolved {got} e i o =
+          rw (o .yes-said, o .no-said) (record {
+            ends = (
+              it,
+              record { place = inl (resolved-conflicts base (rule .yes) (rule .no) y m on off v c d t s e (f .following .base-set) (last .1) stays) },
+            );
+          })
         where
+          last : Ends n ys ns c d base (Branch.Implied rule)
+          last = failed (f .following .posed) (forced-unset (f .implied) t) s (f .following .base-set) z q
+
           stays : Placed base (rule .yes) (rule .no) on off → ⊥
-          stays = subst (HandedUp base (rule .yes) (rule .no) on off) i k .said acting .1
+          stays = handed (f .following .posed) (forced-unset (f .implied) t) s (f .following .base-set) z q k i .1
 
           it : Implied n ys ns (remove (union (rule .yes) y) v) (remove (union (rule .no) m) v)
           it = record {
-            yes-below = remove-lt n _ v (union-lt n (rule .yes) y (failed .0 .yes-below) (f .implied .yes-below));
-            no-below = remove-lt n _ v (union-lt n (rule .no) m (failed .0 .no-below) (f .implied .no-below));
+            yes-below = remove-lt n _ v (union-lt n (rule .yes) y (last .0 .yes-below) (f .implied .yes-below));
+            no-below = remove-lt n _ v (union-lt n (rule .no) m (last .0 .no-below) (f .implied .no-below));
             obeyed = λ g l.
-                resolved-obeyed base (rule .yes) (rule .no) y m on off v c d t s e (f .following .base-set) (failed .1) stays g (failed .0 .obeyed g l)
+                resolved-obeyed base (rule .yes) (rule .no) y m on off v c d t s e (f .following .base-set) (last .1) stays g (last .0 .obeyed g l)
                 (f .implied .obeyed g l);
           }
 
@@ -164,37 +186,34 @@ module _ {n : ℕ} {ys ns : List ℕ} {on off base x : ℕ} where
       }
 
   module _ {v c d s : ℕ} {value : Bool} (f : Trying n ys ns on off base x) (u : Unset n on off v) (a : Assigned on off v value c d) (e : s ≡ union on off) where
+    all-set : Within s (union on off)
+    all-set = rw e (within-refl (union on off))
+
     pub try-following : Following n ys ns c d s
-    try-following = set-following (f .following .posed) (rw e (within-refl (union on off))) (u .below) (u .not-on) (u .not-off) a
+    try-following = set-following (f .following .posed) u a all-set
 
     pub try-less : {k : ℕ} → 3 * unset n on off + 1 ≡ k → 3 * unset n c d + 2 < k
-    try-less q = omega (arith, unset-less {a = c} {b = d} (f .following .posed) (u .below) (u .not-on) (u .not-off) a)
+    try-less q = omega (arith, unset-less {a = c} {b = d} (f .following .posed) u a)
 
-    -- a model
-    pub try-model : {r : Branch} {g : ℕ} → Followed n ys ns c d s r → r ≡ Branch.Model g → Followed n ys ns on off base (Branch.Model g)
-    try-model z q = record { ends = assigned-model a (subst (Followed n ys ns c d s) q z .ends) .0 }
-
-    module _ {r : Branch} {rule : Rule} (z : Followed n ys ns c d s r) (q : r ≡ Branch.Implied rule) where
-      tried : Ends n ys ns c d s (Branch.Implied rule)
-      tried = subst (Followed n ys ns c d s) q z .ends
-
-      acting-after : Acting (rule .yes) (rule .no) on off
-      acting-after = failed-acts (u .not-on) (u .not-off) a (rw e (within-refl (union on off))) (tried .1)
-
+    module _ {r : Branch} {rule : Rule} {h : Bool} (z : Followed n ys ns c d s r) (q : r ≡ Branch.Implied rule) (k : HandedUp base (rule .yes) (rule .no) on off h) where
       -- a rule that is handed up, or acted on here
-      pub try-handed : {b : Bool} → HandedUp base (rule .yes) (rule .no) on off b → b ≡ true → Followed n ys ns on off base (Branch.Implied rule)
-      try-handed h i = record { ends = (tried .0, subst (HandedUp base (rule .yes) (rule .no) on off) i h .said acting-after) }
+      pub try-handed : h ≡ true → Followed n ys ns on off base (Branch.Implied rule)
+      try-handed i = handed-followed (f .following .posed) u a all-set z q k i
 
-      pub try-forcing : {b : Bool} → HandedUp base (rule .yes) (rule .no) on off b → b ≡ false → Forcing n ys ns on off base (rule .yes) (rule .no)
-      try-forcing h i =
-          record { following = f .following; implied = tried .0; unit = subst (HandedUp base (rule .yes) (rule .no) on off) i h .said acting-after .0 }
+      pub try-forcing : h ≡ false → Forcing n ys ns on off base (rule .yes) (rule .no)
+      try-forcing i =
+          record {
+            following = f .following;
+            implied = failed (f .following .posed) u a all-set z q .0;
+            unit = handed (f .following .posed) u a all-set z q k i .0;
+          }
 
 -- the steps of the three functions that call each other
 pub ruleset follow-laws = (posed-partial, follow-conflict, follow-unit, follow-model, follow-trying)
 
-pub ruleset force-laws = (force-some, force-lowest, force-following, force-less, force-model, force-handed, force-resolved)
+pub ruleset force-laws = (force-some, force-lowest, force-following, force-less, branch-model, force-handed, force-resolved)
 
-pub ruleset try-laws = (try-unset, try-following, try-less, try-model, try-handed, try-forcing)
+pub ruleset try-laws = (try-unset, try-following, try-less, branch-model, try-handed, try-forcing)
 
 -- ---- `search`
 
@@ -230,7 +249,7 @@ module _ {n : ℕ} {ys ns : List ℕ} {on off : ℕ} where
           pub search-forced : Keeps n ys ns on off c g
           search-forced =
               record {
-                posed = posed-assigned (k .posed) (forced-below implied forces-here) (forces-here .not-on) (forces-here .not-off) s;
+                posed = posed-assigned (k .posed) (forced-unset implied forces-here) s;
                 forth = λ f m.
                     let i = k .forth f m in
                     model-assigned s i (forced-value implied i v forces-here ∙ sym (digit-has (rule .yes) v value h));
@@ -239,7 +258,7 @@ module _ {n : ℕ} {ys ns : List ℕ} {on off : ℕ} where
 
           pub search-less : unset n c g < unset n a b
           search-less =
-              omega (arith, unset-less {a = c} {b = g} (k .posed) (forced-below implied forces-here) (forces-here .not-on) (forces-here .not-off) s)
+              omega (arith, unset-less {a = c} {b = g} (k .posed) (forced-unset implied forces-here) s)
 
 pub ruleset search-laws = (search-start, search-following, search-model, search-none, search-forced, search-less)
 

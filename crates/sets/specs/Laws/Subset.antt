@@ -6,7 +6,7 @@ use Prim.Native.Nat.{ℕ, _≤_}
 use native.Mathlib.Decide.{ℕ-discrete}
 use native.Mathlib.Omega.{arith}
 use borrow.Author.Tests.{eqb-true, eqb-false, eq-eqb, ne-eqb}
-use lib.Bits.{and-le-r}
+use lib.Bits.{and-le-l, and-le-r, or-add-and}
 use Rattle.sets.specs.Sets.{bit, has, union, inter, diff, insert, subset, disjoint, Within, Apart}
 use Rattle.sets.specs.Laws.Bits.{bit-le, bit-zero, bit-union, bit-inter, bit-diff, bit-insert-same, bit-insert-other, ext}
 use Rattle.sets.specs.Laws.Least.{some-member}
@@ -67,6 +67,13 @@ inter-in a b = record { keeps = λ v. omega (arith, bit-inter a b v) }
 
 pub in-union : (a b : ℕ) → Within a (union a b)
 in-union a b = record { keeps = λ v. omega (arith, bit-union a b v) }
+
+pub in-union-right : (a b : ℕ) → Within b (union a b)
+in-union-right a b = record { keeps = λ v. omega (arith, bit-union a b v) }
+
+-- where the union is empty both are
+pub union-none : (a b : ℕ) → union a b ≡ 0 → (a ≡ 0) × (b ≡ 0)
+union-none a b e = (omega (arith, or-add-and a b, and-le-r a b), omega (arith, or-add-and a b, and-le-l a b))
 
 pub inter-within : (a b : ℕ) → Within a b → inter a b ≡ a
 inter-within a b w = ext (inter a b) a (λ v. omega (arith, bit-inter a b v, w .keeps v))

@@ -62,7 +62,12 @@ reasons-posed {n} {on} {off} s t p =
 pub aim-posed : {n : ℕ} {ys ns : List ℕ} (aim : Aim) (s : ℕ) → Posed n ys ns (aim .on) (aim .off) → aim .goal < n → bit (aim .on) (aim .goal) ≡ 0
     → bit (aim .off) (aim .goal) ≡ 0 → Posed n ys ns (aimOn aim s) (aimOff aim s)
 aim-posed aim s p h x y =
-    posed-assigned (reasons-posed s s p) h (omega (arith, bit-inter s (aim .on) (aim .goal))) (omega (arith, bit-inter s (aim .off) (aim .goal)))
+    posed-assigned (reasons-posed s s p)
+    (record {
+      below = h;
+      not-on = omega (arith, bit-inter s (aim .on) (aim .goal));
+      not-off = omega (arith, bit-inter s (aim .off) (aim .goal));
+    })
     (aim-assigned aim s)
 
 -- ---- keys
