@@ -15,7 +15,8 @@ use Rattle.book.specs.Orders.{order-a, order-b, order-c, order-d, order-e, orde
 use Rattle.sat.specs.Meaning.{everyUnder, everyFilling, someFilling, obeysRules, isModel}
 use Rattle.problem.specs.Problem.{problemOf, costOf}
 use Rattle.consequence.specs.Meaning.{models, hasModel, follows, collect, yesConsequence, noConsequence, theoryOf, obeying, contradicts, forcesYes, forcesNo, yesForced, noForced}
-use Rattle.step.specs.Meaning.{Question, sumBelow, setCost, yesGoals, noGoals, goals, goalLiteral, reasonsOn, reasonsOff, againstOn, againstOff, refutes, isCandidate, candidateCost, before, earlier, firstOf, candidate, candidatesFor, candidatesBelow, candidates, allKnown, theStep, Answer, newOn, newOff, stepFrom, stepOf}
+use Rattle.items.specs.Weights.{sumBelow}
+use Rattle.step.specs.Meaning.{Question, setCost, yesGoals, noGoals, goals, goalLiteral, reasonsOn, reasonsOff, againstOn, againstOff, refutes, isCandidate, candidateCost, before, earlier, firstOf, candidate, candidatesFor, candidatesBelow, candidates, allKnown, theStep, Answer, newOn, newOff, stepFrom, stepOf}
 use Rattle.log.specs.Format.{listBytes, twoBytes, fourBytes, recordBytes, recordsBytes, okBytes, logBytes}
 use Rattle.log.specs.Meaning.{literalsOf, costsWritten, withNew, runFrom, runOf, runFor}
 use Rattle.engine.specs.Calls.{withModel, consequenceAnswer, between, stepSays, stepFor, stepAnswer, logOutcome, logAnswer, bufferAfter}

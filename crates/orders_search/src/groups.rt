@@ -3,6 +3,7 @@ use crate::compare;
 use crate::compare::Tally;
 use crate::cores;
 use crate::shapes;
+use crate::ties;
 use crate::walks;
 use crate::walks::Walked;
 use samples::build;
@@ -53,6 +54,18 @@ pub fn walked_cores(w: Walked, books: u32) -> Walked {
     let mut seed = 135792468135792468;
     for i in 0..books {
         let d = cores::made(seed);
+        after = walks::count(after, d);
+        seed = random::next(d.seed);
+    }
+    after
+}
+
+// Books with many ties, walked.
+pub fn walked_ties(w: Walked, books: u32) -> Walked {
+    let mut after = w;
+    let mut seed = 975318642975318642;
+    for i in 0..books {
+        let d = ties::made(seed);
         after = walks::count(after, d);
         seed = random::next(d.seed);
     }

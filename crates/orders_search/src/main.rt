@@ -12,6 +12,7 @@ mod logged;
 mod logs;
 mod shapes;
 mod steps;
+mod ties;
 mod walks;
 mod worked;
 
@@ -130,5 +131,7 @@ fn main() {
     worked_books(b"orders at the counter, logs", counter_logs::all());
     let w = walks_at(walks_at(walks_at(walks::none(), 1), 3), 999);
     let w = groups::walked_cores(w, 600);
+    let w = groups::walked_planted(w, 3000, 10, 9, 1);
+    let w = groups::walked_ties(w, 3000);
     walked_books(groups::walked_edited(w, 1000));
 }

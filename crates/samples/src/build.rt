@@ -181,7 +181,8 @@ fn made_cost(seed: u64, most: u16) -> u16 {
     if n > most { most } else { n }
 }
 
-fn made_costs(d: Draft, choices: u8, most: u16) -> Draft {
+// Costs of so many choices, from 1 to `most`.
+pub fn made_costs(d: Draft, choices: u8, most: u16) -> Draft {
     let mut made = d;
     for i in 0..choices {
         let a = random::next(made.seed);

@@ -20,12 +20,11 @@ struct Rule {
     no: u64,
 }
 
-// What only steers the search, and no promise depends on: the values tried first, the rule at which the next pass begins,
-// and whether a try has failed.
+// What only steers the search, and no promise depends on: the values tried first, and the rule at which the next pass
+// begins.
 struct Hints {
     prefer: u64,
     from: usize,
-    failed: bool,
 }
 
 // What a rule tells under a partial filling: that each of its literals is false; that all but one are, of a variable not
@@ -184,18 +183,14 @@ fn shortest(yes: &[u64], no: &[u64], p: Partial, pending: u64) -> u64
     pick
 }
 
-// The variable to try: the lowest that is open, and after a failure the lowest of the shortest open rule. The first finds
-// models that deny few preferred values, the second refutes sooner.
-fn choose(yes: &[u64], no: &[u64], p: Partial, pending: u64, failed: bool) -> u32
+// The variable to try: the lowest of the shortest rule that has no true literal.
+fn choose(yes: &[u64], no: &[u64], p: Partial, pending: u64) -> u32
     requires { ⌜ length (now yes) ≡ length (now no) ⌝ }
     requires { ⌜ ToTry (now yes) (now no) (p .on) (p .off) pending ⌝ }
     ensures { λ r. ⌜ Chosen (now (yes .entry)) (now (no .entry)) (p .on) (p .off) r ⌝ }
 {
-    if failed {
-        let short = shortest(yes, no, p, pending);
-        return sets::lowest(short);
-    }
-    sets::lowest(pending)
+    let short = shortest(yes, no, p, pending);
+    sets::lowest(short)
 }
 
 // A filling that extends the partial one: the other variables have their preferred values.
@@ -278,7 +273,6 @@ fn follow(n: u32, yes: &[u64], no: &[u64], p: Partial, base: u64, hints: Hints) 
             let onward = Hints {
                 prefer: hints.prefer,
                 from: next,
-                failed: hints.failed,
             };
             force(n, yes, no, p, base, rule, onward)
         }
@@ -305,7 +299,7 @@ fn try_variable(
     requires { ⌜ Trying n (now yes) (now no) (p .on) (p .off) base pending ⌝ }
     ensures { λ r. ⌜ Followed n (now (yes .entry)) (now (no .entry)) (p .on) (p .off) base r ⌝ }
 {
-    let v = choose(yes, no, p, pending, hints.failed);
+    let v = choose(yes, no, p, pending);
     let q = assign(p, v, sets::has(hints.prefer, v));
     let set = sets::union(p.on, p.off);
     match follow(n, yes, no, q, set, hints) {
@@ -317,7 +311,6 @@ fn try_variable(
             let after = Hints {
                 prefer: hints.prefer,
                 from: 0,
-                failed: true,
             };
             force(n, yes, no, p, base, rule, after)
         }
@@ -331,14 +324,12 @@ pub fn search(n: u32, yes: &[u64], no: &[u64], p: Partial, prefer: u64) -> Searc
     ensures { λ r. ⌜ Searched n (now (yes .entry)) (now (no .entry)) (p .on) (p .off) r ⌝ }
 {
     let mut q = p;
-    let mut failed = false;
+    let hints = Hints {
+        prefer: prefer,
+        from: 0,
+    };
     loop {
         let base = sets::union(q.on, q.off);
-        let hints = Hints {
-            prefer: prefer,
-            from: 0,
-            failed: failed,
-        };
         match follow(n, yes, no, q, base, hints) {
             Branch::Model(m) => return SearchResult::Found(m),
             Branch::Implied(rule) => {
@@ -348,7 +339,6 @@ pub fn search(n: u32, yes: &[u64], no: &[u64], p: Partial, prefer: u64) -> Searc
                 }
                 let v = sets::lowest(left);
                 q = assign(q, v, sets::has(rule.yes, v));
-                failed = true;
             }
         }
     }

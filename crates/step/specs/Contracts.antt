@@ -1,47 +1,46 @@
 -- What the functions of the step ask and say.
 use mathlib.Core.Path.{_≡_}
-use mathlib.Core.Bool.{Bool, not, cond}
+use mathlib.Core.Logic.{_⊎_}
+use mathlib.Core.Bool.{Bool, true, not, cond}
 use mathlib.Core.List.{List, []}
 use Prim.Native.Nat.{ℕ, _+_, _*_, _/_, _%_, _^_, _≤_, _<_}
 use lib.ListN.{length, getD}
-use Rattle.sets.specs.Sets.{bit, full, union, inter, diff, insert, Within}
+use Rattle.sets.specs.Sets.{width, bit, has, union, inter, diff, insert, Within, Apart}
+use Rattle.items.specs.Weights.{sumBelow}
+use Rattle.items.specs.Cheapest.{Least, Minimum, InInterval, Witnessed}
+use Rattle.items.specs.Witnesses.{Pool, Kept}
+use Rattle.items.specs.Bounds.{sumKey, LowerBound, Bounding, Narrowed}
+use Rattle.items.specs.Contracts.{weightIn, Rows, AtMostEach, TakenOff}
 use Rattle.literals.specs.declared.LiteralSet.{LiteralSet}
+use Rattle.reasons.specs.Contracts.{Pooled}
 use Rattle.book.specs.Limits.{maxVariables, maxChoices, maxCost}
-use Rattle.sat.specs.Meaning.{Model, NoModel}
-use Rattle.sat.specs.Contracts.{Posed}
+use Rattle.sat.specs.Meaning.{obeysAll, Model, NoModel}
+use Rattle.sat.specs.Contracts.{Posed, digit}
 use Rattle.problem.specs.Limits.{mostRules}
 use Rattle.consequence.specs.Meaning.{yesForced, noForced, NoModelOf}
 use Rattle.consequence.specs.Contracts.{maskTheory}
 use Rattle.problem.specs.Problem.{costOf, literalCost}
-use Rattle.step.specs.Meaning.{sumBelow, literalOf, Question, asking, goals, againstOn, againstOff, candidateCost, Answer, nothingLeft, Step, step, stepFrom}
-use Rattle.step.specs.Cheapest.{Least, Minimum, InInterval, Hit}
-use Rattle.step.specs.declared.Aim.{Aim}
-use Rattle.step.specs.declared.Part.{Part}
+use Rattle.step.specs.Meaning.{literalOf, Question, asking, goals, againstOn, againstOff, candidateCost, Answer, nothingLeft, Step, step, stepFrom}
+use Rattle.reasons.specs.declared.Aim.{Aim}
+use Rattle.reasons.specs.declared.Part.{Part}
+use Rattle.reasons.specs.declared.State.{State}
 use Rattle.step.specs.declared.Next.{Next}
 
 -- ---- costs
 
 -- The cost of the known literal over variable v + 1, and 0 where there is none.
-unfoldable pub weightOf : List (List ℕ) → ℕ → ℕ → ℕ → ℕ
-weightOf table on off v = bit on v * costOf table v 0 + bit off v * costOf table v 1
-
-pub record Weighed (table : List (List ℕ)) (on off : ℕ) (ws : List ℕ) : Type 0 where
-  pub rows : length ws ≡ maxChoices
-  pub weighs : (v : ℕ) → v < maxChoices → getD ws v 0 ≡ weightOf table on off v
-
--- The sum of the weights of the elements of s below n.
-unfoldable pub total : List ℕ → ℕ → ℕ → ℕ
-total ws n s = sumBelow n (λ v. bit s v * getD ws v 0)
-
--- The sum of all weights.
-abbrev pub sumOf : List ℕ → ℕ
-sumOf ws = sumBelow maxChoices (λ v. getD ws v 0)
+unfoldable pub knownCost : List (List ℕ) → ℕ → ℕ → ℕ → ℕ
+knownCost table on off v = bit on v * costOf table v 0 + bit off v * costOf table v 1
 
 -- ---- the order as one number
 
--- What a key has room for: the cost of each variable's literal and of a goal's opposite, variables of goals, and sets of choices.
+-- What a key has room for: the cost of each variable's literal and of a goal's opposite, the number of facts (which settles no tie yet), variables of
+-- goals, and sets of choices.
 abbrev pub costRoom : ℕ
 costRoom = maxCost * (maxVariables + 1) + 1
+
+abbrev pub countRoom : ℕ
+countRoom = maxChoices + 1
 
 abbrev pub goalRoom : ℕ
 goalRoom = maxChoices
@@ -49,8 +48,12 @@ goalRoom = maxChoices
 abbrev pub setRoom : ℕ
 setRoom = 2 ^ maxChoices
 
+-- What one unit of cost adds to a key.
+abbrev pub costUnit : ℕ
+costUnit = countRoom * goalRoom * setRoom
+
 abbrev pub keyOf : ℕ → ℕ → ℕ → ℕ
-keyOf cost goal s = (cost * goalRoom + goal) * setRoom + s
+keyOf cost goal s = cost * costUnit + goal * setRoom + s
 
 -- There is room for it in a key, which is then a number of 64 bits.
 pub record Small (cost goal s : ℕ) : Type 0 where
@@ -58,56 +61,23 @@ pub record Small (cost goal s : ℕ) : Type 0 where
   pub goal-small : goal < goalRoom
   pub set-small : s < setRoom
 
--- ---- the search for one goal
+-- ---- the known literals as items
 
--- The reasons over the variables of s, with the goal's opposite.
-unfoldable pub aimOn : Aim → ℕ → ℕ
-aimOn aim s = cond (aim .says) (inter s (aim .on)) (insert (inter s (aim .on)) (aim .goal))
+-- What a literal over variable v + 1 of this cost adds to a key: its cost, and its variable in the set.
+abbrev pub literalWeight : ℕ → ℕ → ℕ
+literalWeight cost v = cost * costUnit + 2 ^ v
 
-unfoldable pub aimOff : Aim → ℕ → ℕ
-aimOff aim s = cond (aim .says) (insert (inter s (aim .off)) (aim .goal)) (inter s (aim .off))
+-- What the known literal over variable v + 1 adds to a key, and 0 where there is none.
+unfoldable pub itemWeight : List (List ℕ) → ℕ → ℕ → ℕ → ℕ
+itemWeight table on off v = knownCost table on off v * costUnit + bit (union on off) v * 2 ^ v
 
-pub record Against (aim : Aim) (s on off : ℕ) : Type 0 where
-  pub on-said : on ≡ aimOn aim s
-  pub off-said : off ≡ aimOff aim s
+pub record Weighed (table : List (List ℕ)) (on off : ℕ) (ws : List ℕ) : Type 0 where
+  pub rows : length ws ≡ maxChoices
+  pub weighs : (v : ℕ) → v < maxChoices → weightIn ws v ≡ itemWeight table on off v
 
--- The variables of the known literals that a filling makes false.
-abbrev pub deniedBy : ℕ → ℕ → ℕ → ℕ
-deniedBy on off f = union (diff on f) (inter off f)
-
--- No filling obeys the rules and makes the reasons and the goal's opposite true.
-abbrev pub Refutes : ℕ → List ℕ → List ℕ → Aim → ℕ → Type 0
-Refutes n ys ns aim s = NoModel n ys ns (aimOn aim s) (aimOff aim s)
-
--- The key of a set.
-abbrev pub keyAt : ℕ → List ℕ → Aim → ℕ → ℕ
-keyAt n ws aim s = keyOf (aim .cost + total ws n s) (aim .goal) s
-
--- Rules, known literals, their weights and a goal that is not known.
-pub record Sought (n : ℕ) (ys ns ws : List ℕ) (aim : Aim) : Type 0 where
-  pub posed : Posed n ys ns (aim .on) (aim .off)
-  pub goal-below : aim .goal < n
-  pub goal-row : aim .goal < maxChoices
-  pub not-on : bit (aim .on) (aim .goal) ≡ 0
-  pub not-off : bit (aim .off) (aim .goal) ≡ 0
-  pub rows : length ws ≤ maxChoices
-  pub weighed : union (aim .on) (aim .off) < 2 ^ length ws
-  pub cheap : aim .cost + total ws n (full n) < costRoom
-
-pub record Exploring (n : ℕ) (ys ns ws : List ℕ) (aim : Aim) (part : Part) : Type 0 where
-  pub sought : Sought n ys ns ws aim
-  pub nested : Within (part .chosen) (part .limit)
-  pub known : Within (part .limit) (union (aim .on) (aim .off))
-  pub priced : part .cost ≡ aim .cost + total ws n (part .chosen)
-
--- Each candidate of the part holds a variable of the witness.
-pub record Branching (n : ℕ) (ys ns ws : List ℕ) (aim : Aim) (part : Part) (witness : ℕ) : Type 0 where
-  pub exploring : Exploring n ys ns ws aim part
-  pub hits : Hit (Refutes n ys ns aim) (part .chosen) (part .limit) witness
-
--- The least of the bound and the keys of the candidates in the part.
-pub record Explored (n : ℕ) (ys ns ws : List ℕ) (aim : Aim) (part : Part) (best r : ℕ) : Type 0 where
-  pub cheapest : Least (InInterval (Refutes n ys ns aim) (part .chosen) (part .limit)) (keyAt n ws aim) best r
+-- The sum of all weights.
+abbrev pub sumOf : List ℕ → ℕ
+sumOf ws = sumBelow maxChoices (weightIn ws)
 
 -- ---- the search over all goals
 
@@ -118,10 +88,16 @@ maskQuestion n ys ns ch table c k = asking (maskTheory n ys ns ch) table c k
 -- The goal over variable v + 1, and all sets of known variables.
 abbrev pub aimAt : List (List ℕ) → LiteralSet → ℕ → Bool → Aim
 aimAt table k v says =
-    record { goal = v; says = says; on = k .yes; off = k .no; cost = literalCost table (literalOf v (not says)) }
+    record {
+      goal = v;
+      says = says;
+      on = k .yes;
+      off = k .no;
+      key = literalCost table (literalOf v (not says)) * costUnit + v * setRoom;
+    }
 
 abbrev pub whole : Aim → Part
-whole aim = record { chosen = 0; limit = union (aim .on) (aim .off); cost = aim .cost }
+whole aim = record { chosen = 0; limit = union (aim .on) (aim .off); key = aim .key }
 
 -- The variables of the goals.
 abbrev pub openGoals : LiteralSet → LiteralSet → ℕ
@@ -173,9 +149,10 @@ pub record Trying (q : Question) (left : ℕ) (x : GoalAndSet) : Type 0 where
   pub picks : Picked q x
   pub tried : bit left (x .goal) ≡ 0
 
-pub record Searching (n : ℕ) (ys ns : List ℕ) (table : List (List ℕ)) (c k : LiteralSet) (bound left r : ℕ) : Type 0 where
+pub record Searching (n : ℕ) (ys ns : List ℕ) (table : List (List ℕ)) (c k : LiteralSet) (bound left : ℕ) (ms : List ℕ) (state : State) : Type 0 where
   pub untried : Within left (openGoals c k)
-  pub cheapest : (ch : ℕ) → Least (Trying (maskQuestion n ys ns ch table c k) left) (keyOfPair (maskQuestion n ys ns ch table c k)) bound r
+  pub cheapest : (ch : ℕ) → Least (Trying (maskQuestion n ys ns ch table c k) left) (keyOfPair (maskQuestion n ys ns ch table c k)) bound (state .best)
+  pub pooled : Pooled n ys ns ms (state .used)
 
 -- ---- the new literals
 
@@ -210,13 +187,13 @@ pub record Asked (n : ℕ) (ys ns : List ℕ) (ch : ℕ) (table : List (List ℕ
 -- A key whose cost fits, and what is known, which some filling makes true with the rules.
 pub record Chosen (n : ℕ) (ys ns : List ℕ) (ch : ℕ) (k : LiteralSet) (best : ℕ) : Type 0 where
   pub known : Reasoned n ys ns ch k
-  pub cheap : best / setRoom / goalRoom < costRoom
+  pub cheap : best / costUnit < costRoom
 
 -- The step that a key stands for. The costs do not matter to it.
 abbrev pub stepAt : ℕ → List ℕ → List ℕ → ℕ → LiteralSet → LiteralSet → ℕ → Step
 stepAt n ys ns ch c k best =
     stepFrom (maskQuestion n ys ns ch [] c k)
-    (record { cost = best / setRoom / goalRoom; goal = best / setRoom % goalRoom; reasons = best % setRoom })
+    (record { cost = best / costUnit; goal = best / setRoom % goalRoom; reasons = best % setRoom })
 
 -- The answer for each case.
 abbrev pub nextOf : Answer → Next

@@ -8,6 +8,7 @@ use lib.Count.{trailingZeros}
 use lib.Dec.{eqb, ltb}
 use lib.IntN.{pos, negsuc}
 use Rattle.sets.specs.Sets.{bit, has, union, inter, diff, insert, subset}
+use Rattle.items.specs.Weights.{sumBelow}
 use Rattle.literals.specs.Literal.{Literal}
 use Rattle.literals.specs.declared.LiteralSet.{LiteralSet}
 use Rattle.problem.specs.Problem.{Problem, costOf}
@@ -33,11 +34,6 @@ abbrev pub questionOf : Problem → LiteralSet → Question
 questionOf p known = asking (theoryOf p) (p .costs) (consequenceOf p) known
 
 -- ---- costs
-
--- The sum of f over the numbers below n.
-unfoldable pub sumBelow : ℕ → (ℕ → ℕ) → ℕ
-sumBelow zero f = 0
-sumBelow (suc v) f = sumBelow v f + f v
 
 -- The cost of a set of n variables: the sum of the costs of its literals.
 unfoldable pub setCost : List (List ℕ) → ℕ → ℕ → ℕ → ℕ

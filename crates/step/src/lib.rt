@@ -1,17 +1,19 @@
 // The next step: the cheapest set of known literals that forces a literal still unknown.
 ghost use mathlib.Core.Path.{_≡_};
-ghost use Prim.Native.Nat.{_+_, _<_, _≤_};
-ghost use Rattle.sets.specs.Sets.{Apart, union, width};
+ghost use Prim.Native.Nat.{_+_, _^_, _<_, _≤_};
+ghost use Rattle.sets.specs.Sets.{Apart, width};
 ghost use Rattle.literals.specs.Literal.{variable};
 ghost use Rattle.book.specs.Limits.{maxChoices};
 ghost use Rattle.problem.specs.Problem.{literalCost};
 ghost use Rattle.step.specs.Meaning.{literalOf, step, stepOf};
-ghost use Rattle.step.specs.Contracts.{weightOf, Weighed, sumOf, costRoom, keyOf, Small, Against, deniedBy, Exploring, Explored, Branching, maskQuestion, aimAt, whole, openGoals, Ready, ReadyWithGoal, LeastUnder, LeastFound, Reasoned, Learnt, Asked, Chosen, stepAt, nextOf};
+ghost use Rattle.step.specs.Contracts.{literalWeight, itemWeight, Weighed, sumOf, maskQuestion, aimAt, whole, openGoals, Ready, ReadyWithGoal, LeastUnder, LeastFound, Reasoned, Learnt, Asked, Chosen, stepAt, nextOf};
 use book::Book;
 use consequence::Consequence;
 use literals::LiteralSet;
+use reasons::Aim;
+use reasons::Part;
+use reasons::State;
 use sat::Partial;
-use sat::SearchResult;
 
 // The answer: the step, or that every literal of the consequence is known.
 pub enum Next {
@@ -24,28 +26,21 @@ pub enum Next {
     NothingLeft,
 }
 
-// What the search for one goal does not change: the goal's variable and what the goal says of it, the known literals,
-// and the cost of the goal's opposite.
-struct Aim {
-    pub goal: u32,
-    pub says: bool,
-    pub on: u64,
-    pub off: u64,
-    pub cost: u64,
-}
-
-// The sets of known variables that a part of the search looks at: they hold `chosen` and lie within `limit`. The cost
-// is that of `chosen` with the goal's opposite.
-struct Part {
-    pub chosen: u64,
-    pub limit: u64,
-    pub cost: u64,
-}
-
-// What a key has room for: sets of choices below the one, variables of choices below the other.
+// The order of the candidates as one number: the cost, then the goal's variable, then the set. Such a key is a sum: of what
+// the goal gives and of what each known literal in the set gives. A key has room for sets of choices, for variables of
+// choices, and between cost and goal for a number of facts, which settles no tie yet.
 const SETS: u64 = 1 << Book::MAX_CHOICES;
 
 const VARIABLES: u64 = Book::MAX_CHOICES as u64;
+
+const COUNTS: u64 = VARIABLES + 1;
+
+// What one unit of cost adds to a key.
+const COST_UNIT: u64 = COUNTS * VARIABLES * SETS;
+
+// The models that the search keeps, for one step. Fewer make it ask more: half of them 1.5 times, a quarter three times as
+// much on hard books of 32 choices; more no longer help. They take 4 KB of the stack.
+const POOL_SIZE: usize = 512;
 
 // The literal over variable v + 1.
 fn literal(v: u32, says: bool) -> i8
@@ -74,27 +69,36 @@ fn price(costs: [[u16; 2]; Book::MAX_CHOICES], v: u32, says: bool) -> u16
     cost_of(costs, literal(v, says))
 }
 
-// The cost of the known literal over variable v + 1, and 0 where there is none.
-fn weight(costs: [[u16; 2]; Book::MAX_CHOICES], known: LiteralSet, v: u32) -> u16
+// What a literal over variable v + 1 adds to a key.
+fn literal_weight(costs: [[u16; 2]; Book::MAX_CHOICES], v: u32, says: bool) -> u64
+    requires { ⌜ v < maxChoices ⌝ }
+    ensures { λ r. ⌜ r ≡ literalWeight (literalCost costs (literalOf v says)) v ⌝ }
+{
+    let cost = price(costs, v, says) as u64;
+    cost * COST_UNIT + sets::single(v)
+}
+
+// What the known literal over variable v + 1 adds to a key, and 0 where there is none.
+fn weight(costs: [[u16; 2]; Book::MAX_CHOICES], known: LiteralSet, v: u32) -> u64
     requires { ⌜ v < maxChoices ⌝ }
     requires { ⌜ Apart (known .yes) (known .no) ⌝ }
-    ensures { λ r. ⌜ r ≡ weightOf costs (known .yes) (known .no) v ⌝ }
+    ensures { λ r. ⌜ r ≡ itemWeight costs (known .yes) (known .no) v ⌝ }
 {
     if sets::has(known.yes, v) {
-        return price(costs, v, true);
+        return literal_weight(costs, v, true);
     }
     if sets::has(known.no, v) {
-        return price(costs, v, false);
+        return literal_weight(costs, v, false);
     }
     0
 }
 
-// The costs of the known literals, by variable.
-fn weigh(costs: [[u16; 2]; Book::MAX_CHOICES], known: LiteralSet) -> [u16; Book::MAX_CHOICES]
+// The weights of the known literals, by variable.
+fn weigh(costs: [[u16; 2]; Book::MAX_CHOICES], known: LiteralSet) -> [u64; Book::MAX_CHOICES]
     requires { ⌜ Apart (known .yes) (known .no) ⌝ }
     ensures { λ r. ⌜ Weighed costs (known .yes) (known .no) r ⌝ }
 {
-    let mut weights = [0u16; Book::MAX_CHOICES];
+    let mut weights = [0u64; Book::MAX_CHOICES];
     let mut i = 0;
     while i < Book::MAX_CHOICES {
         weights[i] = weight(costs, known, i as u32);
@@ -104,105 +108,17 @@ fn weigh(costs: [[u16; 2]; Book::MAX_CHOICES], known: LiteralSet) -> [u16; Book:
 }
 
 // The sum of all weights.
-fn sum(weights: [u16; Book::MAX_CHOICES]) -> u64
-    requires { ⌜ sumOf weights < costRoom ⌝ }
+fn sum(weights: [u64; Book::MAX_CHOICES]) -> u64
+    requires { ⌜ sumOf weights < 2 ^ width ⌝ }
     ensures { λ r. ⌜ r ≡ sumOf weights ⌝ }
 {
     let mut total: u64 = 0;
     let mut i = 0;
     while i < Book::MAX_CHOICES {
-        total += weights[i] as u64;
+        total += weights[i];
         i += 1;
     }
     total
-}
-
-// The order of the candidates as one number: the cost, then the goal's variable, then the set.
-fn key(cost: u64, goal: u32, set: u64) -> u64
-    requires { ⌜ Small cost goal set ⌝ }
-    ensures { λ r. ⌜ r ≡ keyOf cost goal set ⌝ }
-{
-    (cost * VARIABLES + goal as u64) * SETS + set
-}
-
-// The reasons over the variables of a set, and the opposite of the goal.
-fn against(aim: Aim, set: u64) -> Partial
-    requires { ⌜ aim .goal < width ⌝ }
-    ensures { λ r. ⌜ Against aim set (r .on) (r .off) ⌝ }
-{
-    let reasons = Partial {
-        on: sets::intersection(set, aim.on),
-        off: sets::intersection(set, aim.off),
-    };
-    sat::assign(reasons, aim.goal, !aim.says)
-}
-
-// The variables of the known literals that a filling makes false.
-fn denied(aim: Aim, filling: u64) -> u64
-    ensures { λ r. ⌜ r ≡ deniedBy (aim .on) (aim .off) filling ⌝ }
-{
-    sets::union(
-        sets::difference(aim.on, filling),
-        sets::intersection(aim.off, filling),
-    )
-}
-
-// The least of `best` and the keys of the candidates in a part. Where `chosen` alone is not below `best`, no larger set
-// is. A model of the rules, of the reasons `chosen` and of the goal's opposite shows what a candidate must hold: a known
-// literal that the model makes false. Known values are preferred, so that there are few of them.
-fn explore(n: u32, yes: &[u64], no: &[u64], weights: &[u16], aim: Aim, part: Part, best: u64) -> u64
-    requires { ⌜ Exploring n (now yes) (now no) (now weights) aim part ⌝ }
-    ensures { λ r. ⌜ Explored n (now (yes .entry)) (now (no .entry)) (now (weights .entry)) aim part best r ⌝ }
-{
-    let here = key(part.cost, aim.goal, part.chosen);
-    if best <= here {
-        return best;
-    }
-    let question = against(aim, part.chosen);
-    match sat::search(n, yes, no, question, aim.on) {
-        SearchResult::Nothing => here,
-        SearchResult::Found(m) => {
-            let witness = denied(aim, m);
-            branch(n, yes, no, weights, aim, part, witness, best)
-        }
-    }
-}
-
-// The same where each candidate of the part holds a variable of `witness`: first those with the least such variable,
-// then those without it.
-fn branch(
-    n: u32,
-    yes: &[u64],
-    no: &[u64],
-    weights: &[u16],
-    aim: Aim,
-    part: Part,
-    witness: u64,
-    best: u64,
-) -> u64
-    requires { ⌜ Branching n (now yes) (now no) (now weights) aim part witness ⌝ }
-    ensures { λ r. ⌜ Explored n (now (yes .entry)) (now (no .entry)) (now (weights .entry)) aim part best r ⌝ }
-{
-    let left = sets::intersection(witness, part.limit);
-    if left == 0 {
-        return best;
-    }
-    let v = sets::lowest(left);
-    let at = v as usize;
-    let weight = weights[at] as u64;
-    let cost = part.cost + weight;
-    let with = Part {
-        chosen: sets::insert(part.chosen, v),
-        limit: part.limit,
-        cost: cost,
-    };
-    let found = explore(n, yes, no, weights, aim, with, best);
-    let without = Part {
-        chosen: part.chosen,
-        limit: sets::remove(part.limit, v),
-        cost: part.cost,
-    };
-    branch(n, yes, no, weights, aim, without, witness, found)
 }
 
 // The goal over variable v + 1.
@@ -211,12 +127,13 @@ fn aim_at(costs: [[u16; 2]; Book::MAX_CHOICES], known: LiteralSet, v: u32, says:
     ensures { λ r. ⌜ r ≡ aimAt costs known v says ⌝ }
 {
     let cost = price(costs, v, !says) as u64;
+    let key = cost * COST_UNIT + v as u64 * SETS;
     Aim {
         goal: v,
         says: says,
         on: known.yes,
         off: known.no,
-        cost: cost,
+        key: key,
     }
 }
 
@@ -227,7 +144,7 @@ fn all_sets(aim: Aim) -> Part
     Part {
         chosen: 0,
         limit: sets::union(aim.on, aim.off),
-        cost: aim.cost,
+        key: aim.key,
     }
 }
 
@@ -240,14 +157,14 @@ fn open_goals(consequence: LiteralSet, known: LiteralSet) -> u64
     sets::union(yes_goals, no_goals)
 }
 
-// The least of a bound and the keys of all candidates. The goals share one bound, lowest variable first. A goal says what
-// the consequence says of its variable.
+// The least of a bound and the keys of all candidates. The goals share the least key so far and the pool, lowest variable
+// first. A goal says what the consequence says of its variable.
 fn cheapest_under(
     n: u32,
     yes: &[u64],
     no: &[u64],
     costs: [[u16; 2]; Book::MAX_CHOICES],
-    weights: [u16; Book::MAX_CHOICES],
+    weights: [u64; Book::MAX_CHOICES],
     consequence: LiteralSet,
     known: LiteralSet,
     bound: u64,
@@ -257,23 +174,29 @@ fn cheapest_under(
     ensures { λ r. ⌜ LeastUnder n (now (yes .entry)) (now (no .entry)) costs consequence known bound r ⌝ }
 {
     let mut left = open_goals(consequence, known);
-    let mut best = bound;
+    let mut pool = [0u64; POOL_SIZE];
+    let mut state = State {
+        best: bound,
+        used: 0,
+        next: 0,
+        looks: 0,
+    };
     while left != 0 {
         let v = sets::lowest(left);
         let aim = aim_at(costs, known, v, sets::has(consequence.yes, v));
-        best = explore(n, yes, no, &weights, aim, all_sets(aim), best);
+        let part = all_sets(aim);
+        state = reasons::explore(n, yes, no, &weights, &mut pool, aim, part, state);
         left = sets::remove(left, v);
     }
-    best
+    state.best
 }
 
 // The key of all that is known with one goal.
-fn known_key(weights: [u16; Book::MAX_CHOICES], aim: Aim) -> u64
-    requires { ⌜ Small (aim .cost + sumOf weights) (aim .goal) (union (aim .on) (aim .off)) ⌝ }
-    ensures { λ r. ⌜ r ≡ keyOf (aim .cost + sumOf weights) (aim .goal) (union (aim .on) (aim .off)) ⌝ }
+fn known_key(weights: [u64; Book::MAX_CHOICES], aim: Aim) -> u64
+    requires { ⌜ aim .key + sumOf weights < 2 ^ width ⌝ }
+    ensures { λ r. ⌜ r ≡ aim .key + sumOf weights ⌝ }
 {
-    let cost = aim.cost + sum(weights);
-    key(cost, aim.goal, sets::union(aim.on, aim.off))
+    aim.key + sum(weights)
 }
 
 // The least key of all candidates. What is known forces each goal, so all of it with the lowest goal is a candidate, and its
@@ -336,7 +259,7 @@ fn step_of(
 {
     let set = best % SETS;
     let v = (best / SETS % VARIABLES) as u32;
-    let cost = (best / SETS / VARIABLES) as u16;
+    let cost = (best / COST_UNIT) as u16;
     let yes_goals = sets::difference(consequence.yes, known.yes);
     let goal = literal(v, sets::has(yes_goals, v));
     let reasons = LiteralSet {

@@ -32,7 +32,7 @@ use Rattle.step.specs.Meaning.{Question, questionOf, Step, Answer, nothingLeft,
 use Rattle.step.specs.IsStep.{ForcedBy, Sound, oppositeOn, oppositeOff, Goal, Candidature, Gained, IsStep}
 use Rattle.step.specs.Theorems.{step-is, left-known}
 use Rattle.step.specs.Laws.Costs.{set-bound}
-use Rattle.step.specs.Laws.Explores.{opposite}
+use Rattle.reasons.specs.Laws.Explores.{opposite}
 use Rattle.step.specs.Laws.TheStep.{sound-sized, step-left}
 use Rattle.step.specs.Laws.Given as facts
 use Rattle.log.specs.Format.{logBytes, isLog, readLog, risingOver}

@@ -19,8 +19,9 @@ use Rattle.literals.specs.Literal.{Literal, variable}
 use Rattle.literals.specs.Truth.{holds, allHold, yesBit, noBit, yesMask, noMask}
 use Rattle.literals.specs.Laws.{Proper}
 use Rattle.problem.specs.Problem.{Problem, costOf, literalCost}
-use Rattle.step.specs.Meaning.{literalOf, sumBelow, setCost}
-use Rattle.step.specs.Laws.Costs.{sum-same, sum-le, sum-one}
+use Rattle.items.specs.Weights.{sumBelow}
+use Rattle.items.specs.Laws.Sums.{sum-same, sum-le, sum-one, sum-add}
+use Rattle.step.specs.Meaning.{literalOf, setCost}
 use Rattle.step.specs.IsStep.{oppositeOn, oppositeOff}
 use Rattle.log.specs.Format.{risingOver}
 use Rattle.log.specs.Meaning.{literalsOf}
@@ -243,11 +244,6 @@ no-again on off a = ext (noMask (literalsOf on off)) off (λ v. go v (ℕ-discre
     go v (no h) (no k) = omega (arith, bit-le off v, bit-le (noMask (literalsOf on off)) v)
 
 -- ---- sums
-
-sum-add : (n : ℕ) (f g : ℕ → ℕ) → sumBelow n (λ v. f v + g v) ≡ sumBelow n f + sumBelow n g
-unfolding sumBelow
-sum-add zero f g = refl
-sum-add (suc n) f g = omega (arith, sum-add n f g)
 
 sum-none : (n : ℕ) → sumBelow n (λ v. 0) ≡ 0
 unfolding sumBelow

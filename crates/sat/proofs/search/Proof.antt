@@ -7,10 +7,10 @@ use Rattle.sat.proofs.search.Statement.{statement}
 use Rattle.sat.proofs.search.Tie as tie
 
 abbrev Inv-loop : tie.InvT-loop
-Inv-loop n yes' no' prefer q₀ failed₀ q failed = Keeps n yes' no' (q₀ .on) (q₀ .off) (q .on) (q .off)
+Inv-loop n yes' no' prefer q₀ hints q = Keeps n yes' no' (q₀ .on) (q₀ .off) (q .on) (q .off)
 
 abbrev μ-loop : tie.MeasureT-loop
-μ-loop n yes' no' prefer q₀ failed₀ q failed = unset n (q .on) (q .off)
+μ-loop n yes' no' prefer q₀ hints q = unset n (q .on) (q .off)
 
 pub search-spec : {M : Type 1} → statement M
 search-spec =

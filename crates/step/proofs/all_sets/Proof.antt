@@ -7,7 +7,7 @@ union-requires : tie.Need-union-requires
 union-requires c κs = search needs
 
 returns : tie.Need-returns
-returns c = λ i. record { chosen = 0; limit = c .union .ensures i; cost = c .before .args .aim .cost }
+returns c = λ i. record { chosen = 0; limit = c .union .ensures i; key = c .before .args .aim .key }
 
 pub all-sets-spec : {M : Type 1} → statement M
 all-sets-spec = tie.close (tie.spec union-requires returns)

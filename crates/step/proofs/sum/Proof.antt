@@ -22,9 +22,6 @@ mul-total c = search needs
 array-read-total : tie.Need-array-read-total Inv-loop μ-loop
 array-read-total c = search needs
 
-cast-total : tie.Need-cast-total Inv-loop μ-loop
-cast-total c = search needs
-
 add-total : tie.Need-add-total Inv-loop μ-loop
 add-total c = omega (arith, summed-fits (c .before .loop .inv) (omega arith), c .before .before .pre)
 
@@ -49,7 +46,6 @@ sum-spec =
     loop-holds
     mul-total
     array-read-total
-    cast-total
     add-total
     add-i
     loop-less

@@ -7,20 +7,20 @@ use Rattle.step.proofs.weight.Tie as tie
 has-requires : tie.Need-has-requires
 has-requires c κs = search needs
 
-price-requires : tie.Need-price-requires
-price-requires c κs = search needs
+literal-weight-requires : tie.Need-literal-weight-requires
+literal-weight-requires c κs = search needs
 
 returns : tie.Need-returns
-returns c = weight-yes _ _ _ _ (c .before .before .before .pre .1) (c .before .before .has .ensures) (c .before .if1 .taken) (c .price .ensures)
+returns c = weight-yes _ _ _ _ (c .before .before .before .pre .1) (c .before .before .has .ensures) (c .before .if1 .taken) (c .literal-weight .ensures)
 
 has-requires-2 : tie.Need-has-requires-2
 has-requires-2 c κs = search needs
 
-price-requires-2 : tie.Need-price-requires-2
-price-requires-2 c κs = search needs
+literal-weight-requires-2 : tie.Need-literal-weight-requires-2
+literal-weight-requires-2 c κs = search needs
 
 returns-2 : tie.Need-returns-2
-returns-2 c = weight-no _ _ _ _ (c .before .before .before .before .has .ensures) (c .before .before .before .if1 .left) (c .before .before .has2 .ensures) (c .before .if2 .taken) (c .price2 .ensures)
+returns-2 c = weight-no _ _ _ _ (c .before .before .before .before .has .ensures) (c .before .before .before .if1 .left) (c .before .before .has2 .ensures) (c .before .if2 .taken) (c .literal-weight2 .ensures)
 
 returns-3 : tie.Need-returns-3
 returns-3 c = weight-none _ _ _ _ (c .before .before .before .has .ensures) (c .before .before .if1 .left) (c .before .has2 .ensures) (c .if2 .left)
@@ -30,9 +30,9 @@ weight-spec =
     tie.close
     (tie.spec
     has-requires
-    price-requires
+    literal-weight-requires
     returns
     has-requires-2
-    price-requires-2
+    literal-weight-requires-2
     returns-2
     returns-3)

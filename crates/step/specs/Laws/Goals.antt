@@ -7,36 +7,36 @@ use Prim.Native.Nat.{ℕ, _+_, _*_, _^_, _≤_, _<_}
 use native.Mathlib.Decide.{ℕ-discrete, decLt}
 use native.Mathlib.Omega.{arith}
 use lib.ListN.{getD, List·getD-eq-default}
-use Rattle.sets.specs.Sets.{bit, has, full, union, inter, diff, insert, remove, Within, Apart, Lowest}
+use Rattle.sets.specs.Sets.{width, bit, has, union, inter, diff, insert, remove, Within, Apart, Lowest}
 use Rattle.sets.specs.Laws.Bits.{bit-le, bit-zero, bit-high, bit-union, bit-diff, bit-remove-same, bit-remove-other, union-lt, member-lt}
 use Rattle.sets.specs.Laws.Subset.{has-true, has-false, one-has, zero-has, within-refl, within-le, within-trans}
+use Rattle.items.specs.Weights.{sumBelow, total}
+use Rattle.items.specs.Cheapest.{Least, InInterval, least-minimum, least-none, least-both, least-same, remove-within, remove-less}
+use Rattle.items.specs.Witnesses.{pool-empty}
+use Rattle.items.specs.Contracts.{weightIn}
+use Rattle.items.specs.Laws.Sums.{sum-same, total-zero, total-all, total-width}
 use Rattle.literals.specs.declared.LiteralSet.{LiteralSet}
 use Rattle.sat.specs.Contracts.{Posed}
 use Rattle.book.specs.Limits.{maxChoices, maxCost}
 use Rattle.consequence.specs.Laws.Masks.{to-theory, of-theory, none-to-theory, none-of-theory}
 use Rattle.problem.specs.Problem.{costOf, literalCost}
 use Rattle.step.specs.Meaning.{Question, setCost, literalOf, yesGoals, noGoals, goals, reasonsOn, reasonsOff, againstOn, againstOff, candidateCost}
-use Rattle.step.specs.Cheapest.{Least, InInterval, least-minimum, least-none, least-both, least-same, remove-within, remove-less}
-use Rattle.step.specs.Contracts.{weightOf, Weighed, total, sumOf, keyOf, Small, aimOn, aimOff, Refutes, keyAt, Sought, Exploring, Explored, maskQuestion, aimAt, whole, openGoals, Ready, ReadyWithGoal, Picks, GoalAndSet, keyOfPair, LeastUnder, LeastFound, Trying, Searching}
-use Rattle.step.specs.Laws.Explores.{aim-posed, known-small}
+use Rattle.reasons.specs.Contracts.{aimOn, aimOff, Refutes, keyAt, Aimed, Pooled, Sought, Exploring, Explored}
+use Rattle.step.specs.Contracts.{knownCost, costUnit, itemWeight, Weighed, sumOf, keyOf, Small, maskQuestion, aimAt, whole, openGoals, Ready, ReadyWithGoal, Picks, GoalAndSet, keyOfPair, LeastUnder, LeastFound, Trying, Searching}
+use Rattle.reasons.specs.Laws.Explores.{aim-posed}
 use Rattle.step.specs.Laws.Known.{cond-not, open-at, sign-of, Forcing, all-picked}
-use Rattle.step.specs.declared.Aim.{Aim}
-use Rattle.step.specs.declared.Part.{Part}
-use Rattle.step.specs.Laws.Costs.{one-cost, set-bound, total-zero, total-bound, total-all, cost-with-yes, cost-with-no}
+use Rattle.reasons.specs.declared.Aim.{Aim}
+use Rattle.reasons.specs.declared.Part.{Part}
+use Rattle.reasons.specs.declared.State.{State}
+use Rattle.step.specs.Laws.Costs.{set-bound, weigh-set, cost-with-yes, cost-with-no}
 
 -- the cost of reasons with the opposite of what a goal says
-opposite-cost : (table : List (List ℕ)) (ws : List ℕ) (on off : ℕ) → ((v : ℕ) → getD ws v 0 ≡ weightOf table on off v) → (n s v : ℕ) → v < n
-    → bit on v ≡ 0 → bit off v ≡ 0 → (says : Bool)
+opposite-cost : (table : List (List ℕ)) (on off n s v : ℕ) → v < n → bit on v ≡ 0 → bit off v ≡ 0 → (says : Bool)
     → setCost table n (cond says (inter s on) (insert (inter s on) v)) (cond says (insert (inter s off) v) (inter s off))
-    ≡ literalCost table (literalOf v (not says)) + total ws n s
+    ≡ literalCost table (literalOf v (not says)) + total (knownCost table on off) n s
 unfolding literalCost
-opposite-cost table ws on off w n s v h p q true = omega (arith, cost-with-no table ws on off w n s v h q)
-opposite-cost table ws on off w n s v h p q false = omega (arith, cost-with-yes table ws on off w n s v h p)
-
-literal-cheap : (table : List (List ℕ)) → ((v column : ℕ) → costOf table v column ≤ maxCost) → (v : ℕ) (says : Bool) → literalCost table (literalOf v says) ≤ maxCost
-unfolding literalCost
-literal-cheap table b v true = b v 0
-literal-cheap table b v false = b v 1
+opposite-cost table on off n s v h p q true = omega (arith, cost-with-no table on off n s v h q)
+opposite-cost table on off n s v h p q false = omega (arith, cost-with-yes table on off n s v h p)
 
 -- ---- a goal
 
@@ -96,65 +96,46 @@ module _ {n : ℕ} {ys ns : List ℕ} {table : List (List ℕ)} {c k : LiteralSe
       in-both : (v : ℕ) → bit (union (k .yes) (k .no)) v ≤ bit (union (c .yes) (c .no)) v
       in-both v = omega (arith, bit-union (k .yes) (k .no) v, bit-union (c .yes) (c .no) v, x .known-yes .keeps v, x .known-no .keeps v)
 
+  known-below : union (k .yes) (k .no) < 2 ^ n
+  known-below = union-lt n (k .yes) (k .no) (known-posed .on-below) (known-posed .off-below)
+
   -- ---- weights
 
-  all-weighed : {ws : List ℕ} → Weighed table (k .yes) (k .no) ws → (v : ℕ) → getD ws v 0 ≡ weightOf table (k .yes) (k .no) v
-  unfolding weightOf
-  all-weighed {ws} w v = by-cases (decLt v maxChoices) (λ h. w .weighs v h) beyond
-    where
-      beyond : (v < maxChoices → ⊥) → getD ws v 0 ≡ bit (k .yes) v * costOf table v 0 + bit (k .no) v * costOf table v 1
-      beyond h =
-          let none : bit (union (k .yes) (k .no)) v ≡ 0 = bit-high maxChoices (union (k .yes) (k .no)) v known-rows (omega arith) in
-          let on : bit (k .yes) v ≡ 0 = omega (arith, bit-union (k .yes) (k .no) v) in
-          let off : bit (k .no) v ≡ 0 = omega (arith, bit-union (k .yes) (k .no) v) in
-          omega (
-            arith,
-            List·getD-eq-default ws 0 {n = v} (omega (arith, w .rows)),
-            ap (λ (d : ℕ). d * costOf table v 0) on,
-            ap (λ (d : ℕ). d * costOf table v 1) off,
-          )
-
   -- a variable that is not known weighs nothing
-  weight-none : {ws : List ℕ} → Weighed table (k .yes) (k .no) ws → (v : ℕ) → bit (union (k .yes) (k .no)) v ≡ 0 → getD ws v 0 ≡ 0
-  unfolding weightOf
-  weight-none w v none =
+  no-weight : (v : ℕ) → bit (union (k .yes) (k .no)) v ≡ 0 → itemWeight table (k .yes) (k .no) v ≡ 0
+  unfolding itemWeight knownCost
+  no-weight v none =
       let on : bit (k .yes) v ≡ 0 = omega (arith, bit-union (k .yes) (k .no) v) in
       let off : bit (k .no) v ≡ 0 = omega (arith, bit-union (k .yes) (k .no) v) in
-      omega (arith, all-weighed w v, ap (λ (d : ℕ). d * costOf table v 0) on, ap (λ (d : ℕ). d * costOf table v 1) off)
+      omega (
+        arith,
+        ap (λ (d : ℕ). d * costOf table v 0) on,
+        ap (λ (d : ℕ). d * costOf table v 1) off,
+        ap (λ (d : ℕ). d * 2 ^ v) none,
+      )
 
-  known-total : {ws : List ℕ} → Weighed table (k .yes) (k .no) ws → sumOf ws ≡ total ws n (union (k .yes) (k .no))
-  known-total {ws} w =
-      total-all ws n (union (k .yes) (k .no)) (w .rows) (weight-none w) (union-lt n (k .yes) (k .no) (known-posed .on-below) (known-posed .off-below))
+  module _ {ws : List ℕ} (w : Weighed table (k .yes) (k .no) ws) where
+    all-weighed : (v : ℕ) → weightIn ws v ≡ itemWeight table (k .yes) (k .no) v
+    all-weighed v =
+        by-cases (decLt v maxChoices) (λ h. w .weighs v h)
+        (λ h.
+        List·getD-eq-default ws 0 {n = v} (omega (arith, w .rows))
+        ∙ sym (no-weight v (bit-high maxChoices (union (k .yes) (k .no)) v known-rows (omega arith))))
 
-  weight-cheap : {ws : List ℕ} → Weighed table (k .yes) (k .no) ws → (v : ℕ) → getD ws v 0 ≤ maxCost
-  unfolding weightOf
-  weight-cheap w v =
-      omega (arith, all-weighed w v, one-cost maxCost (bit (k .yes) v) (bit (k .no) v) (costOf table v 0) (costOf table v 1) (known-apart .avoids v) (x .cheap v 0) (x .cheap v 1))
+    -- what a set of known literals weighs: its cost, and itself
+    known-weighs : (s : ℕ) → Within s (union (k .yes) (k .no))
+        → total (weightIn ws) maxChoices s ≡ total (knownCost table (k .yes) (k .no)) n s * costUnit + s
+    unfolding total
+    known-weighs s h =
+        let row : s < 2 ^ maxChoices = omega (arith, within-le s (union (k .yes) (k .no)) h, known-rows) in
+        let below : s < 2 ^ n = omega (arith, within-le s (union (k .yes) (k .no)) h, known-below) in
+        sum-same maxChoices _ _ (λ v i. ap (λ (x : ℕ). bit s v * x) (all-weighed v))
+        ∙ weigh-set table (k .yes) (k .no) maxChoices s h row
+        ∙ ap (λ (x : ℕ). x * costUnit + s) (total-width (knownCost table (k .yes) (k .no)) maxChoices n s row below)
 
-  -- ---- the search for the goal over variable v + 1
-
-  module _ {ws : List ℕ} (w : Weighed table (k .yes) (k .no) ws) (v : ℕ) (o : Open n c k v) (says : Bool) where
-    pub goal-sought : Sought n ys ns ws (aimAt table k v says)
-    goal-sought =
-        record {
-          posed = known-posed;
-          goal-below = o .below;
-          goal-row = o .row;
-          not-on = o .not-on;
-          not-off = o .not-off;
-          rows = omega (arith, w .rows);
-          weighed = rw (w .rows) known-rows;
-          cheap = omega (arith, total-bound ws n (full n) maxCost (weight-cheap w), literal-cheap table (x .cheap) v (not says), x .few);
-        }
-
-    pub goal-exploring : Exploring n ys ns ws (aimAt table k v says) (whole (aimAt table k v says))
-    goal-exploring =
-        record {
-          sought = goal-sought;
-          nested = record { keeps = λ u. omega (arith, bit-zero u) };
-          known = within-refl (union (k .yes) (k .no));
-          priced = omega (arith, total-zero ws n);
-        }
+    known-total : sumOf ws ≡ total (weightIn ws) maxChoices (union (k .yes) (k .no))
+    known-total =
+        total-all (weightIn ws) maxChoices maxChoices (union (k .yes) (k .no)) (λ v e. all-weighed v ∙ no-weight v e) known-rows known-rows
 
   -- ---- its candidates are those of the question, with the same keys
 
@@ -184,12 +165,51 @@ module _ {n : ℕ} {ys ns : List ℕ} {table : List (List ℕ)} {c k : LiteralSe
           set-small = omega (arith, within-le s (union (k .yes) (k .no)) w, known-rows);
         }
 
-    aim-cost : {ws : List ℕ} → Weighed table (k .yes) (k .no) ws
-        → literalCost table (literalOf v (not (has (diff (c .yes) (k .yes)) v))) + total ws n s ≡ candidateCost (maskQuestion n ys ns ch table c k) v s
+    aim-cost : literalCost table (literalOf v (not (has (diff (c .yes) (k .yes)) v))) + total (knownCost table (k .yes) (k .no)) n s
+        ≡ candidateCost (maskQuestion n ys ns ch table c k) v s
     unfolding candidateCost aimOn aimOff
-    aim-cost {ws} w =
-        sym (opposite-cost table ws (k .yes) (k .no) (all-weighed w) n s v (o .below) (o .not-on) (o .not-off) (has (diff (c .yes) (k .yes)) v))
+    aim-cost =
+        sym (opposite-cost table (k .yes) (k .no) n s v (o .below) (o .not-on) (o .not-off) (has (diff (c .yes) (k .yes)) v))
         ∙ ap₂ (λ (a : ℕ) (b : ℕ). setCost table n a b) aim-on aim-off
+
+    aim-key : {ws : List ℕ} → Weighed table (k .yes) (k .no) ws → Within s (union (k .yes) (k .no))
+        → keyAt ws (aimAt table k v (has (diff (c .yes) (k .yes)) v)) s ≡ keyOf (candidateCost (maskQuestion n ys ns ch table c k) v s) v s
+    aim-key w h = omega (arith, known-weighs w s h, aim-cost)
+
+  -- ---- the search for the goal over variable v + 1
+
+  module _ {ws : List ℕ} (w : Weighed table (k .yes) (k .no) ws) (v : ℕ) (o : Open n c k v) where
+    -- the key of all that is known fits
+    known-fits : keyAt ws (aimAt table k v (has (diff (c .yes) (k .yes)) v)) (union (k .yes) (k .no)) < 2 ^ width
+    known-fits =
+        let all : ℕ = union (k .yes) (k .no) in
+        let small = against-small 0 v o all (within-refl all) in
+        omega (arith, aim-key 0 v o all w (within-refl all), small .cost-small, small .goal-small, small .set-small)
+
+    goal-sought : Sought n ys ns ws (aimAt table k v (has (diff (c .yes) (k .yes)) v))
+    goal-sought =
+        record {
+          aimed = record {
+            posed = known-posed;
+            goal-below = o .below;
+            goal-row = o .row;
+            not-on = o .not-on;
+            not-off = o .not-off;
+          };
+          rows = w .rows;
+          weighed = known-rows;
+          cheap = known-fits;
+        }
+
+    pub goal-exploring : {says : Bool} → says ≡ has (c .yes) v → Exploring n ys ns ws (aimAt table k v says) (whole (aimAt table k v says))
+    goal-exploring e =
+        rw (e, o .says)
+        (record {
+          sought = goal-sought;
+          nested = record { keeps = λ u. omega (arith, bit-zero u) };
+          known = within-refl (union (k .yes) (k .no));
+          keyed = omega (arith, total-zero (weightIn ws) maxChoices);
+        })
 
 -- The candidates of one goal.
 pub record Mine (q : Question) (v : ℕ) (t : GoalAndSet) : Type 0 where
@@ -198,9 +218,9 @@ pub record Mine (q : Question) (v : ℕ) (t : GoalAndSet) : Type 0 where
 
 module _ {n : ℕ} {ys ns : List ℕ} {table : List (List ℕ)} {c k : LiteralSet} (x : Ready n ys ns table c k) {ws : List ℕ}
     (w : Weighed table (k .yes) (k .no) ws) (v : ℕ) (o : Open n c k v) where
-  pub goal-found : {best r : ℕ} → (ch : ℕ)
-      → Explored n ys ns ws (aimAt table k v (has (diff (c .yes) (k .yes)) v)) (whole (aimAt table k v (has (diff (c .yes) (k .yes)) v))) best r
-      → Least (Mine (maskQuestion n ys ns ch table c k) v) (keyOfPair (maskQuestion n ys ns ch table c k)) best r
+  pub goal-found : {best : ℕ} {us : List ℕ} {r : State} → (ch : ℕ)
+      → Explored n ys ns ws (aimAt table k v (has (diff (c .yes) (k .yes)) v)) (whole (aimAt table k v (has (diff (c .yes) (k .yes)) v))) best us r
+      → Least (Mine (maskQuestion n ys ns ch table c k) v) (keyOfPair (maskQuestion n ys ns ch table c k)) best (r .best)
   unfolding goals yesGoals noGoals
   goal-found ch e = least-same back forth (e .cheapest)
     where
@@ -210,10 +230,7 @@ module _ {n : ℕ} {ys ns : List ℕ} {table : List (List ℕ)} {c k : LiteralSe
       aim : Aim
       aim = aimAt table k v (has (diff (c .yes) (k .yes)) v)
 
-      same-key : (s : ℕ) → keyAt n ws aim s ≡ keyOf (candidateCost q v s) v s
-      same-key s = ap (λ (a : ℕ). keyOf a v s) (aim-cost x ch v o s w)
-
-      back : (t : GoalAndSet) → Mine q v t → (s : ℕ) × InInterval (Refutes n ys ns aim) 0 (union (k .yes) (k .no)) s × (keyAt n ws aim s ≡ keyOfPair q t)
+      back : (t : GoalAndSet) → Mine q v t → (s : ℕ) × InInterval (Refutes n ys ns aim) 0 (union (k .yes) (k .no)) s × (keyAt ws aim s ≡ keyOfPair q t)
       back t m = (
         t .set,
         record {
@@ -221,10 +238,11 @@ module _ {n : ℕ} {ys ns : List ℕ} {table : List (List ℕ)} {c k : LiteralSe
           below = m .picks .known;
           holds = rw (aim-on x ch v o (t .set), aim-off x ch v o (t .set)) (none-of-theory ch (m .picks .refuted));
         },
-        same-key (t .set) ∙ ap (λ (g : ℕ). keyOf (candidateCost q g (t .set)) g (t .set)) (sym (m .same)),
+        aim-key x ch v o (t .set) w (m .picks .known)
+            ∙ ap (λ (g : ℕ). keyOf (candidateCost q g (t .set)) g (t .set)) (sym (m .same)),
       )
 
-      forth : (s : ℕ) → InInterval (Refutes n ys ns aim) 0 (union (k .yes) (k .no)) s → (t : GoalAndSet) × Mine q v t × (keyOfPair q t ≡ keyAt n ws aim s)
+      forth : (s : ℕ) → InInterval (Refutes n ys ns aim) 0 (union (k .yes) (k .no)) s → (t : GoalAndSet) × Mine q v t × (keyOfPair q t ≡ keyAt ws aim s)
       forth s b = (
         record { goal = v; set = s },
         record {
@@ -235,29 +253,36 @@ module _ {n : ℕ} {ys ns : List ℕ} {table : List (List ℕ)} {c k : LiteralSe
             refuted = rw (← aim-on x ch v o s, ← aim-off x ch v o s) (none-to-theory ch (b .holds));
           };
         },
-        sym (same-key s),
+        sym (aim-key x ch v o s w (b .below)),
       )
 
 -- ---- the steps of the search over all goals
 
 module _ {n : ℕ} {ys ns : List ℕ} {table : List (List ℕ)} {c k : LiteralSet} {bound : ℕ} where
-  pub searching-start : {left : ℕ} → left ≡ openGoals c k → Searching n ys ns table c k bound left bound
+  pub searching-start : {left : ℕ} {ms : List ℕ} {state : State} → left ≡ openGoals c k → state .best ≡ bound → state .used ≡ 0
+      → Searching n ys ns table c k bound left ms state
   unfolding goals yesGoals noGoals
-  searching-start {left} e =
-      record {
+  searching-start {left} e b z =
+      rw (b, z)
+      (record {
         untried = rw e (within-refl (openGoals c k));
         cheapest = λ ch. least-none (λ t h. omega (arith, h .tried, h .picks .goal, ap (λ (m : ℕ). bit m (t .goal)) e));
-      }
+        pooled = pool-empty;
+      })
 
-  pub searching-done : {left best : ℕ} → Searching n ys ns table c k bound left best → left ≡ 0 → LeastUnder n ys ns table c k bound best
-  searching-done {left} {best} s e =
+  pub searching-done : {left : ℕ} {ms : List ℕ} {state : State} → Searching n ys ns table c k bound left ms state → left ≡ 0
+      → LeastUnder n ys ns table c k bound (state .best)
+  searching-done {left} s e =
       record {
         cheapest = λ ch.
             least-same (λ t h. (t, record { picks = h; tried = ap (λ (m : ℕ). bit m (t .goal)) e ∙ bit-zero (t .goal) }, refl))
             (λ t h. (t, h .picks, refl)) (s .cheapest ch);
       }
 
-  module _ (x : Ready n ys ns table c k) {left best v : ℕ} (s : Searching n ys ns table c k bound left best) (l : Lowest left v) where
+  pub searching-pooled : {left : ℕ} {ms : List ℕ} {state : State} → Searching n ys ns table c k bound left ms state → Pooled n ys ns ms (state .used)
+  searching-pooled s = s .pooled
+
+  module _ (x : Ready n ys ns table c k) {left v : ℕ} {ms : List ℕ} {state : State} (s : Searching n ys ns table c k bound left ms state) (l : Lowest left v) where
     pub searching-open : Open n c k v
     searching-open =
         goal-open x v (omega (arith, l .least .member, s .untried .keeps v, bit-le (openGoals c k) v))
@@ -267,18 +292,20 @@ module _ {n : ℕ} {ys ns : List ℕ} {table : List (List ℕ)} {c k : LiteralSe
 
     module _ {ws : List ℕ} {says : Bool} {aim : Aim} {part : Part} (w : Weighed table (k .yes) (k .no) ws) (q : says ≡ has (c .yes) v) (a : aim ≡ aimAt table k v says) (b : part ≡ whole aim) where
       pub searching-explore : Exploring n ys ns ws aim part
-      searching-explore = rw (b, a) (goal-exploring x w v searching-open says)
+      searching-explore = rw (b, a) (goal-exploring x w v searching-open q)
 
       -- one goal more is tried
-      pub searching-more : {r rest : ℕ} → Explored n ys ns ws aim part best r → rest ≡ remove left v → Searching n ys ns table c k bound rest r
-      searching-more {r} {rest} e d =
+      pub searching-more : {r : State} {us : List ℕ} {rest : ℕ} → Explored n ys ns ws aim part (state .best) us r → rest ≡ remove left v
+          → Searching n ys ns table c k bound rest us r
+      searching-more {r} {us} {rest} e d =
           rw d
           (record {
             untried = within-trans (remove left v) left (openGoals c k) (remove-within left v) (s .untried);
             cheapest = λ ch. least-both (split ch) (fewer ch) (mine ch) (s .cheapest ch) (goal-found x w v searching-open ch here);
+            pooled = e .pooled;
           })
         where
-          here : Explored n ys ns ws (aimAt table k v (has (diff (c .yes) (k .yes)) v)) (whole (aimAt table k v (has (diff (c .yes) (k .yes)) v))) best r
+          here : Explored n ys ns ws (aimAt table k v (has (diff (c .yes) (k .yes)) v)) (whole (aimAt table k v (has (diff (c .yes) (k .yes)) v))) (state .best) us r
           here = rw (b, a, q, searching-open .says) at e
 
           split : (ch : ℕ) (t : GoalAndSet) → Trying (maskQuestion n ys ns ch table c k) (remove left v) t
@@ -298,10 +325,11 @@ module _ {n : ℕ} {ys ns : List ℕ} {table : List (List ℕ)} {c k : LiteralSe
                 tried = ap (bit (remove left v)) (h .same) ∙ bit-remove-same left v;
               }
 
-  pub searching-less : {left best v rest : ℕ} → Searching n ys ns table c k bound left best → Lowest left v → rest ≡ remove left v → rest < left
-  searching-less {left} {best} {v} s l e = omega (arith, e, remove-less left v (l .least .member))
+  pub searching-less : {left v rest : ℕ} {ms : List ℕ} {state : State} → Searching n ys ns table c k bound left ms state → Lowest left v
+      → rest ≡ remove left v → rest < left
+  searching-less {left} {v} s l e = omega (arith, e, remove-less left v (l .least .member))
 
-pub ruleset searching-laws = (searching-start, searching-row, searching-explore, searching-more, searching-less, searching-done)
+pub ruleset searching-laws = (searching-start, searching-pooled, searching-row, searching-explore, searching-more, searching-less, searching-done)
 
 -- ---- the bound: all that is known with the lowest goal
 
@@ -330,28 +358,21 @@ module _ {n : ℕ} {ys ns : List ℕ} {table : List (List ℕ)} {c k : LiteralSe
     bound-row = lowest-open .row
 
     module _ {ws : List ℕ} {says : Bool} {aim : Aim} (w : Weighed table (k .yes) (k .no) ws) (s : says ≡ has (c .yes) v) (a : aim ≡ aimAt table k v says) where
-      pub bound-small : Small (aim .cost + sumOf ws) (aim .goal) (union (aim .on) (aim .off))
-      bound-small =
-          rw (a, known-total (x .ready) w)
-          (known-small (union (k .yes) (k .no)) (goal-sought (x .ready) w v lowest-open says) (within-refl (union (k .yes) (k .no))))
+      bound-key : aim .key + sumOf ws ≡ keyAt ws (aimAt table k v (has (diff (c .yes) (k .yes)) v)) (union (k .yes) (k .no))
+      bound-key = rw (a, s, lowest-open .says, known-total (x .ready) w) refl
+
+      pub bound-small : aim .key + sumOf ws < 2 ^ width
+      bound-small = omega (arith, bound-key, known-fits (x .ready) w v lowest-open)
 
       -- the least under it is the least of all
-      pub bound-least : {bound r : ℕ} → bound ≡ keyOf (aim .cost + sumOf ws) (aim .goal) (union (aim .on) (aim .off)) → LeastUnder n ys ns table c k bound r
-          → LeastFound n ys ns table c k r
+      pub bound-least : {bound r : ℕ} → bound ≡ aim .key + sumOf ws → LeastUnder n ys ns table c k bound r → LeastFound n ys ns table c k r
       unfolding goals yesGoals noGoals
       bound-least {bound} b f =
           record {
             cheapest = λ ch.
                 least-minimum (f .cheapest ch) (record { goal = v; set = union (k .yes) (k .no) })
-                (all-picked (maskQuestion n ys ns ch table c k) (forcing ch) v (lowest-open .isGoal)) (b ∙ same ch);
+                (all-picked (maskQuestion n ys ns ch table c k) (forcing ch) v (lowest-open .isGoal))
+                (b ∙ bound-key ∙ aim-key (x .ready) ch v lowest-open (union (k .yes) (k .no)) w (within-refl (union (k .yes) (k .no))));
           }
-        where
-          all : ℕ
-          all = union (k .yes) (k .no)
-
-          same : (ch : ℕ) → keyOf (aim .cost + sumOf ws) (aim .goal) (union (aim .on) (aim .off)) ≡ keyOf (candidateCost (maskQuestion n ys ns ch table c k) v all) v all
-          same ch =
-              rw (a, known-total (x .ready) w, s, lowest-open .says)
-              (ap (λ (d : ℕ). keyOf d v (union (k .yes) (k .no))) (aim-cost (x .ready) ch v lowest-open (union (k .yes) (k .no)) w))
 
 pub ruleset bound-laws = (bound-apart, bound-some, bound-row, bound-small, bound-least)

@@ -13,7 +13,7 @@ use Rattle.consequence.specs.Laws.Masks.{assigned-theory}
 use Rattle.step.specs.Meaning.{Question, yesGoals, noGoals, goals, reasonsOn, reasonsOff, againstOn, againstOff, candidateCost}
 use Rattle.step.specs.IsStep.{oppositeOn, oppositeOff, Goal, Candidature, placed}
 use Rattle.step.specs.Contracts.{Picks}
-use Rattle.step.specs.Laws.Explores.{opposite}
+use Rattle.reasons.specs.Laws.Explores.{opposite}
 
 pub cond-not : (a : Bool) (x y : ℕ) → cond (not a) x y ≡ cond a y x
 cond-not true x y = refl

@@ -10,7 +10,7 @@ use lib.Dec.{ltb, eqb}
 use borrow.Author.Tests.{ltb-true, ltb-false, eqb-true, eqb-false, lt-ltb, le-ltb}
 use Rattle.step.specs.Meaning.{Candidate, before, earlier, firstOf}
 use Rattle.step.specs.IsStep.{Lex, Upto}
-use Rattle.step.specs.Contracts.{setRoom, goalRoom, keyOf, Small}
+use Rattle.step.specs.Contracts.{costUnit, setRoom, goalRoom, keyOf, Small}
 
 -- ---- the order as facts
 
@@ -137,7 +137,7 @@ earlier-key c d x y = go (earlier c d) refl
 
 -- what a key says
 pub record Decoded (r cost goal s : ℕ) : Type 0 where
-  pub cost-of : r / setRoom / goalRoom ≡ cost
+  pub cost-of : r / costUnit ≡ cost
   pub goal-of : r / setRoom % goalRoom ≡ goal
   pub set-of : r % setRoom ≡ s
 

@@ -16,9 +16,9 @@ use Rattle.consequence.specs.Laws.Masks.{to-theory, of-theory}
 use Rattle.consequence.specs.declared.Consequence.{Consequence}
 use Rattle.consequence.specs.declared.Consequence.the-variants.{NoModel as Contradiction, Forced}
 use Rattle.step.specs.Meaning.{Question, literalOf, yesGoals, noGoals, goals, goalLiteral, reasonsOn, reasonsOff, candidateCost, Candidate, candidate, theStep, step, newOn, newOff, stepFrom, stepOf}
-use Rattle.step.specs.Contracts.{setRoom, goalRoom, keyOf, Small, maskQuestion, openGoals, Ready, ReadyWithGoal, Picks, GoalAndSet, keyOfPair, LeastFound, Reasoned, Learnt, Asked, Chosen, stepAt, nextOf}
+use Rattle.step.specs.Contracts.{costUnit, setRoom, goalRoom, keyOf, Small, maskQuestion, openGoals, Ready, ReadyWithGoal, Picks, GoalAndSet, keyOfPair, LeastFound, Reasoned, Learnt, Asked, Chosen, stepAt, nextOf}
 use Rattle.step.specs.Laws.Order.{upto-key, Decoded, decode}
-use Rattle.step.specs.Laws.Explores.{reasons-posed}
+use Rattle.reasons.specs.Laws.Explores.{reasons-posed}
 use Rattle.step.specs.Laws.Given.{model-fewer}
 use Rattle.step.specs.Laws.Candidates.{Stepped}
 use Rattle.step.specs.Laws.Goals.{goal-open, known-posed, against-small}
@@ -29,7 +29,7 @@ use Rattle.step.specs.declared.Next.{Next}
 pub record IsKeyOfStep (q : Question) (best : ℕ) : Type 0 where
   pub picks : Picks q (best / setRoom % goalRoom) (best % setRoom)
   pub taken : theStep q ≡ candidate q (best / setRoom % goalRoom) (best % setRoom)
-  pub costs : candidateCost q (best / setRoom % goalRoom) (best % setRoom) ≡ best / setRoom / goalRoom
+  pub costs : candidateCost q (best / setRoom % goalRoom) (best % setRoom) ≡ best / costUnit
 
 module _ {n : ℕ} {ys ns : List ℕ} {ch : ℕ} {table : List (List ℕ)} {c k : LiteralSet} where
   -- ---- what is asked
@@ -154,7 +154,7 @@ module _ {n : ℕ} {ys ns : List ℕ} {ch : ℕ} {table : List (List ℕ)} {c k 
         q = maskQuestion n ys ns ch table c k
 
         same : candidate q (best / setRoom % goalRoom) (best % setRoom)
-            ≡ record { cost = best / setRoom / goalRoom; goal = best / setRoom % goalRoom; reasons = best % setRoom }
+            ≡ record { cost = best / costUnit; goal = best / setRoom % goalRoom; reasons = best % setRoom }
         same = λ i. record { cost = picked .costs i; goal = best / setRoom % goalRoom; reasons = best % setRoom }
 
         theirs : stepOf q ≡ step (stepAt n ys ns ch c k best)
@@ -181,10 +181,10 @@ module _ {n : ℕ} {ys ns : List ℕ} {ch best : ℕ} {k : LiteralSet} (x : Chos
   pub chosen-step : (c : LiteralSet) {d a b : ℕ} {says : Bool} {l : Literal} {new : LiteralSet} → d ≡ diff (c .yes) (k .yes)
       → says ≡ has d (best / setRoom % goalRoom) → l ≡ literalOf (best / setRoom % goalRoom) says → a ≡ inter (best % setRoom) (k .yes)
       → b ≡ inter (best % setRoom) (k .no) → Learnt n ys ns ch (record { yes = a; no = b }) k new
-      → Next.Step l (record { yes = a; no = b }) new (best / setRoom / goalRoom) ≡ nextOf (step (stepAt n ys ns ch c k best))
+      → Next.Step l (record { yes = a; no = b }) new (best / costUnit) ≡ nextOf (step (stepAt n ys ns ch c k best))
   unfolding stepFrom goalLiteral reasonsOn reasonsOff newOn newOff yesGoals
   chosen-step c {d} {a} {b} {says} {l} {new} p q e s t w =
-      λ i. Next.Step (goal-is i) (record { yes = s i; no = t i }) (record { yes = yes-is i; no = no-is i }) (best / setRoom / goalRoom)
+      λ i. Next.Step (goal-is i) (record { yes = s i; no = t i }) (record { yes = yes-is i; no = no-is i }) (best / costUnit)
     where
       goal-is : l ≡ literalOf (best / setRoom % goalRoom) (has (diff (c .yes) (k .yes)) (best / setRoom % goalRoom))
       goal-is = e ∙ ap (literalOf (best / setRoom % goalRoom)) (q ∙ ap (λ (m : ℕ). has m (best / setRoom % goalRoom)) p)

@@ -22,7 +22,7 @@ use Rattle.step.specs.Meaning.{Question, setCost, literalOf, yesGoals, g
 use Rattle.step.specs.Contracts.{Picks, Asked, maskQuestion}
 use Rattle.step.specs.Laws.Order.{upto-cost}
 use Rattle.step.specs.IsStep.{Sound, oppositeOn, oppositeOff, Goal, Candidature, Upto, placed, New, Gained, IsStep}
-use Rattle.step.specs.Laws.Explores.{opposite}
+use Rattle.reasons.specs.Laws.Explores.{opposite}
 use Rattle.step.specs.Laws.Known.{Forcing, goals-at, is-goal, against-on, against-off, reasons-union, goal-is, candidature-picks, candidature-cost, all-picked}
 use Rattle.step.specs.Laws.Candidates.{Sized, Stepped, the-step, picks-goal}
 
