@@ -76,12 +76,17 @@ module _ {Con : ℕ → Type 0} {key : ℕ → ℕ} {n s top : ℕ} {left : ℕ 
   dead h = record { low = omega arith; least = λ t p. omega (arith, b .under t p); from = inl refl }
 
   -- fixing: an item whose weight left is at least best - bound is in no set with a key below best
-  fixed : {best : ℕ} (kept : ℕ) → top < 2 ^ n → bound < best → ((v : ℕ) → bit (diff top s) v ≡ 1 → left v < best - bound → bit kept v ≡ 1)
-      → (t : ℕ) → InInterval Con s top t → key t < best → Within t (union s kept)
-  fixed {best} kept small low light t p k = record { keeps = at }
+  pub fixing : {best : ℕ} (kept : ℕ) → top < 2 ^ n → Within s top → bound < best → Within kept (diff top s)
+      → ((v : ℕ) → bit (diff top s) v ≡ 1 → left v < best - bound → bit kept v ≡ 1) → Narrowed Con key s top best (union s kept)
+  fixing {best} kept small h low inside light =
+      record {
+        nested = in-union s kept;
+        smaller = record { keeps = λ v. omega (arith, bit-union s kept v, h .keeps v, inside .keeps v, bit-diff top s v) };
+        below-best = λ t p k. record { keeps = at t p k };
+      }
     where
-      outside : (v : ℕ) → bit t v ≡ 1 → bit s v ≡ 0 → bit kept v ≡ 1
-      outside v i o =
+      outside : (t : ℕ) → InInterval Con s top t → key t < best → (v : ℕ) → bit t v ≡ 1 → bit s v ≡ 0 → bit kept v ≡ 1
+      outside t p k v i o =
           light v (omega (arith, bit-diff top s v, p .below .keeps v, bit-le top v))
           (omega (
             arith,
@@ -90,21 +95,12 @@ module _ {Con : ℕ → Type 0} {key : ℕ → ℕ} {n s top : ℕ} {left : ℕ 
                 (omega (arith, bit-diff t s v)),
           ))
 
-      at : (v : ℕ) → bit t v ≤ bit (union s kept) v
-      at v =
+      at : (t : ℕ) → InInterval Con s top t → key t < best → (v : ℕ) → bit t v ≤ bit (union s kept) v
+      at t p k v =
           by-cases (ℕ-discrete (bit t v) 1)
           (λ i.
-          by-cases (ℕ-discrete (bit s v) 0) (λ o. omega (arith, bit-union s kept v, outside v i o)) (λ o. omega (arith, bit-union s kept v)))
+          by-cases (ℕ-discrete (bit s v) 0) (λ o. omega (arith, bit-union s kept v, outside t p k v i o)) (λ o. omega (arith, bit-union s kept v)))
           (λ i. omega (arith, bit-le t v))
-
-  pub fixing : {best : ℕ} (kept : ℕ) → top < 2 ^ n → Within s top → bound < best → Within kept (diff top s)
-      → ((v : ℕ) → bit (diff top s) v ≡ 1 → left v < best - bound → bit kept v ≡ 1) → Narrowed Con key s top best (union s kept)
-  fixing kept small h low inside light =
-      record {
-        nested = in-union s kept;
-        smaller = record { keeps = λ v. omega (arith, bit-union s kept v, h .keeps v, inside .keeps v, bit-diff top s v) };
-        below-best = fixed kept small low light;
-      }
 
 -- where no set contradicts, any number is a bound
 pub no-set : {Con : ℕ → Type 0} {key : ℕ → ℕ} {n s top : ℕ} {left : ℕ → ℕ} {bound : ℕ} → ((t : ℕ) → InInterval Con s top t → ⊥)
