@@ -100,7 +100,12 @@ fn ask(n: u32, yes: &[u64], no: &[u64], aim: Aim, set: u64) -> SearchResult
     sat::search(n, yes, no, question, aim.on)
 }
 
-// Puts a model into the pool: into free room, and once there is none over an old one, round and round.
+// A place of the pool, and the first one after the last.
+fn turned(next: usize, room: usize) -> usize {
+    if next < room { next } else { 0 }
+}
+
+// Puts a model into the pool: into free room, and once there is none over the one that stands there longest.
 fn store(pool: &mut [u64], state: State, model: u64) -> State
     requires { ⌜ state .used ≤ length (now pool) ⌝ }
     ensures { λ r. ⌜ Stored (now (pool .entry)) state model (now (pool .exit)) r ⌝ }
@@ -112,14 +117,13 @@ fn store(pool: &mut [u64], state: State, model: u64) -> State
         after.used = free + 1;
         return after;
     }
-    let old = state.next;
+    let old = turned(state.next, pool.len());
     if old < pool.len() {
         pool[old] = model;
         after.next = old + 1;
         return after;
     }
-    after.next = 0;
-    after
+    state
 }
 
 // Whether a filling makes the goal true.
@@ -150,7 +154,7 @@ fn witness_of(aim: Aim, part: Part, model: u64) -> Witness
     Witness::Open(sets::intersection(items, part.limit))
 }
 
-// The smaller of two witnesses.
+// The same bound with the smaller of its witness and another.
 fn noted(b: Bounds, among: u64) -> Bounds
     ensures { λ r. ⌜ Noted b among r ⌝ }
 {

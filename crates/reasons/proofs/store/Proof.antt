@@ -19,6 +19,9 @@ same-length c = search (needs, kept-laws)
 returns : tie.Need-returns
 returns c = search (needs, kept-laws)
 
+turned-requires : tie.Need-turned-requires
+turned-requires c κs = search (needs, kept-laws)
+
 mul-pool-2 : tie.Need-mul-pool-2
 mul-pool-2 c = search (needs, kept-laws)
 
@@ -46,6 +49,7 @@ store-spec =
     add-after
     same-length
     returns
+    turned-requires
     mul-pool-2
     slice-write-pool-2
     add-after-2
