@@ -175,13 +175,12 @@ fn cheapest_under(
 {
     let mut left = open_goals(consequence, known);
     let mut pool = [0u64; POOL_SIZE];
-    let start = State {
+    let mut state = State {
         best: bound,
         used: 0,
         next: 0,
         looks: 0,
     };
-    let mut state = start;
     while left != 0 {
         let v = sets::lowest(left);
         let aim = aim_at(costs, known, v, sets::has(consequence.yes, v));
