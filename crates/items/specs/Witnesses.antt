@@ -11,7 +11,7 @@ use lib.Seq.{getD-set-same, getD-set-other}
 use Rattle.sets.specs.Sets.{bit, diff, disjoint, Within, Apart}
 use Rattle.sets.specs.Laws.Bits.{bit-le, bit-diff}
 use Rattle.sets.specs.Laws.Subset.{within-trans, disjoint-apart, disjoint-false}
-use Rattle.items.specs.Cheapest.{InInterval, Hit}
+use Rattle.items.specs.Cheapest.{Hit}
 
 -- ---- witnesses
 

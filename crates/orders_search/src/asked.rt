@@ -55,6 +55,7 @@ pub fn step_agrees(s: &[u8], known: Literals, due: Taken) -> bool {
                 reasons: masks(reasons),
                 new: masks(new),
                 cost: wide(cost),
+                tied: false,
             };
             if due.found {
                 same_step(found, due)

@@ -28,6 +28,7 @@ fn step_of(goal: Literals, reasons: u64, new: Literals, cost: u64) -> Taken {
         reasons: all_yes(reasons),
         new,
         cost,
+        tied: false,
     }
 }
 
@@ -38,6 +39,7 @@ fn nothing_left() -> Taken {
         reasons: all_yes(0),
         new: all_yes(0),
         cost: 0,
+        tied: false,
     }
 }
 

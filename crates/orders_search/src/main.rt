@@ -98,6 +98,8 @@ fn entries(w: Walked) {
 
 fn walked_books(w: Walked) {
     answers(b"step on the way", w, walks::ON_THE_WAY);
+    io::write_all(1, b"of these steps ");
+    counted(w.tied, b" had several candidates of the least cost", b"\n");
     answers(b"step from any known set", w, walks::FROM_ANY);
     answers(b"known set without a fact", w, walks::FACT_MISSING);
     answers(b"known set outside the consequence", w, walks::TOO_MUCH);

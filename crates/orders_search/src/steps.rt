@@ -9,6 +9,8 @@ pub struct Candidate {
     pub cost: u64,
     pub goal: u64,
     pub from: u64,
+    // Whether another one costs the same.
+    pub tied: bool,
 }
 
 // The step, or that nothing is left. The goal is a set of one literal.
@@ -18,6 +20,8 @@ pub struct Taken {
     pub reasons: Literals,
     pub new: Literals,
     pub cost: u64,
+    // Whether another candidate costs the same.
+    pub tied: bool,
 }
 
 fn wide(cost: u16) -> u64 {
@@ -64,6 +68,16 @@ fn goes_before(a: Candidate, b: Candidate) -> bool {
     a.from < b.from
 }
 
+// The better of a candidate and the best so far, and whether the two cost the same.
+fn better(made: Candidate, best: Candidate) -> Candidate {
+    let equal = best.found && made.cost == best.cost;
+    let mut kept = if goes_before(made, best) { made } else { best };
+    if equal {
+        kept.tied = true;
+    }
+    kept
+}
+
 // One set of known literals for one goal: the better of it and the best so far.
 fn tried(
     all: &[u64],
@@ -85,14 +99,15 @@ fn tried(
         cost: cost_of(costs, set),
         goal: goal.yes | goal.no,
         from,
+        tied: false,
     };
-    if !goes_before(made, best) {
+    if best.found && best.cost < made.cost {
         return best;
     }
     if fillings::possible(all, set) {
         best
     } else {
-        made
+        better(made, best)
     }
 }
 
@@ -126,6 +141,7 @@ fn over_goals(
         cost: 0,
         goal: 0,
         from: 0,
+        tied: false,
     };
     for v in 0..20 {
         let goal = fillings::within(goals, fillings::power(v));
@@ -157,5 +173,6 @@ pub fn next(
         reasons,
         new,
         cost: best.cost,
+        tied: best.tied,
     }
 }

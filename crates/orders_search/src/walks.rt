@@ -44,10 +44,12 @@ pub const NO_LOG: usize = 10;
 pub const GROUPS: usize = NO_LOG + 1;
 
 // Of each group: how often the engine was asked, and how often its answer was not what is due.
+// Of the steps on the way: at how many several candidates had the least cost.
 // Of the logs: how many had no step, one, two, .. and seven or more.
 pub struct Walked {
     pub tried: [u64; GROUPS],
     pub differ: [u64; GROUPS],
+    pub tied: u64,
     pub by_steps: [u64; 8],
 }
 
@@ -55,6 +57,7 @@ pub fn none() -> Walked {
     Walked {
         tried: [0; GROUPS],
         differ: [0; GROUPS],
+        tied: 0,
         by_steps: [0; 8],
     }
 }
@@ -108,7 +111,10 @@ fn case_of(all: &[u64], b: Reckoned) -> Case {
 
 // One step more on the way: the engine's held against the reckoned one.
 fn one_step(w: Walked, s: &[u8], known: Literals, due: steps::Taken) -> Walked {
-    noted(w, ON_THE_WAY, asked::step_agrees(s, known, due))
+    let mut after = noted(w, ON_THE_WAY, asked::step_agrees(s, known, due));
+    let tied = after.tied;
+    after.tied = compare::more(tied, due.tied);
+    after
 }
 
 // The way and its log as reckoned, the engine asked at each known set.

@@ -1,21 +1,18 @@
 -- What the functions of the step ask and say.
 use mathlib.Core.Path.{_≡_}
-use mathlib.Core.Logic.{_⊎_}
-use mathlib.Core.Bool.{Bool, true, not, cond}
+use mathlib.Core.Bool.{Bool, not}
 use mathlib.Core.List.{List, []}
 use Prim.Native.Nat.{ℕ, _+_, _*_, _/_, _%_, _^_, _≤_, _<_}
-use lib.ListN.{length, getD}
-use Rattle.sets.specs.Sets.{width, bit, has, union, inter, diff, insert, Within, Apart}
+use lib.ListN.{length}
+use Rattle.sets.specs.Sets.{bit, union, diff, Within}
 use Rattle.items.specs.Weights.{sumBelow}
-use Rattle.items.specs.Cheapest.{Least, Minimum, InInterval, Witnessed}
-use Rattle.items.specs.Witnesses.{Pool, Kept}
-use Rattle.items.specs.Bounds.{sumKey, LowerBound, Bounding, Narrowed}
-use Rattle.items.specs.Contracts.{weightIn, Rows, AtMostEach, TakenOff}
+use Rattle.items.specs.Cheapest.{Least, Minimum}
+use Rattle.items.specs.Contracts.{weightIn}
 use Rattle.literals.specs.declared.LiteralSet.{LiteralSet}
 use Rattle.reasons.specs.Contracts.{Pooled}
 use Rattle.book.specs.Limits.{maxVariables, maxChoices, maxCost}
-use Rattle.sat.specs.Meaning.{obeysAll, Model, NoModel}
-use Rattle.sat.specs.Contracts.{Posed, digit}
+use Rattle.sat.specs.Meaning.{Model}
+use Rattle.sat.specs.Contracts.{Posed}
 use Rattle.problem.specs.Limits.{mostRules}
 use Rattle.consequence.specs.Meaning.{yesForced, noForced, NoModelOf}
 use Rattle.consequence.specs.Contracts.{maskTheory}

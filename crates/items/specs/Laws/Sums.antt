@@ -133,11 +133,6 @@ module _ (w : ℕ → ℕ) (n : ℕ) where
       sum-same n _ _ (λ v l. digit-add (bit s v) (bit (diff t s) v) (bit t v) (w v) (omega (arith, bit-diff t s v, h .keeps v)))
       ∙ sum-add n (λ v. bit s v * w v) (λ v. bit (diff t s) v * w v)
 
-  -- no weight is above k
-  pub total-bound : (s k : ℕ) → ((v : ℕ) → w v ≤ k) → total w n s ≤ n * k
-  unfolding total
-  total-bound s k b = sum-bound n k _ (λ v. omega (arith, digit-le (bit s v) 1 (w v) (bit-le s v), b v))
-
   -- where only items of s weigh, and are below n and m, that is the sum of all weights below m
   pub total-all : (m s : ℕ) → ((v : ℕ) → bit s v ≡ 0 → w v ≡ 0) → s < 2 ^ n → s < 2 ^ m → sumBelow m w ≡ total w n s
   unfolding total

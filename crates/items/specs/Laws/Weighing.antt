@@ -2,14 +2,14 @@
 use mathlib.Core.Path.{_≡_, refl, sym, ap, _∙_}
 use mathlib.Core.Logic.{by-cases}
 use mathlib.Core.List.{List}
-use Prim.Native.Nat.{ℕ, _+_, _-_, _*_, _^_, _≤_, _<_}
+use Prim.Native.Nat.{ℕ, _+_, _-_, _*_, _≤_, _<_}
 use native.Mathlib.Decide.{ℕ-discrete}
 use native.Mathlib.Omega.{arith}
-use lib.ListN.{length, getD, set, length-set}
+use lib.ListN.{length, set, length-set}
 use lib.Seq.{getD-set-same, getD-set-other}
-use Rattle.sets.specs.Sets.{width, bit, diff, remove, Within, Lowest}
-use Rattle.sets.specs.Laws.Bits.{bit-le, bit-zero, bit-diff, bit-remove-same, bit-remove-other, member-lt}
-use Rattle.sets.specs.Laws.Subset.{within-refl, within-trans, within-le}
+use Rattle.sets.specs.Sets.{bit, remove, Within, Lowest}
+use Rattle.sets.specs.Laws.Bits.{bit-le, bit-zero, bit-remove-same, bit-remove-other, member-lt}
+use Rattle.sets.specs.Laws.Subset.{within-refl, within-trans}
 use Rattle.items.specs.Contracts.{weightIn, Rows, AtMostEach, Enough, TakenOff, Lighter, Item}
 use Rattle.items.specs.Cheapest.{remove-within, remove-less}
 

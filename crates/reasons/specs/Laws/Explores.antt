@@ -6,23 +6,23 @@ use mathlib.Core.List.{List}
 use Prim.Native.Nat.{ℕ, _+_, _-_, _*_, _^_, _≤_, _<_, min, max}
 use native.Mathlib.Omega.{arith}
 use lib.Bits.{and-le-r}
-use lib.ListN.{length, getD}
-use Rattle.sets.specs.Sets.{width, bit, union, inter, diff, insert, remove, Within, Apart}
-use Rattle.sets.specs.Laws.Bits.{bit-le, bit-union, bit-inter, bit-diff, member-lt, inter-lt}
+use lib.ListN.{length}
+use Rattle.sets.specs.Sets.{width, bit, union, inter, diff, insert, remove, Within}
+use Rattle.sets.specs.Laws.Bits.{bit-le, bit-union, bit-inter, bit-diff, member-lt}
 use Rattle.sets.specs.Laws.Subset.{within-trans, within-le, within-insert}
-use Rattle.items.specs.Cheapest.{Least, InInterval, Hit, hit, no-member, branch-on, hit-stronger, Witnessed, Monotone, within-remove, remove-within, insert-more, remove-less}
+use Rattle.items.specs.Cheapest.{Least, InInterval, Hit, hit, no-member, branch-on, hit-stronger, Monotone, within-remove, remove-within, insert-more, remove-less}
 use Rattle.items.specs.Witnesses.{Rising, Witness, witness, witness-hit, pool-kept}
 use Rattle.items.specs.Bounds.{narrowed, dead-stronger, narrowed-stronger}
 use Rattle.items.specs.Contracts.{weightIn, Rows, Item}
 use Rattle.items.specs.Laws.Sums.{total-le, total-insert}
-use Rattle.sat.specs.Meaning.{Model, NoModel}
+use Rattle.sat.specs.Meaning.{Model}
 use Rattle.sat.specs.Contracts.{Posed, digit, Assigned, Searched}
 use Rattle.sat.specs.Laws.Assigns.{model-assigned, assigned-model, posed-assigned}
 use Rattle.sat.specs.Laws.Searches.{searched-model, searched-none}
 use Rattle.sat.specs.declared.SearchResult.{SearchResult}
 use Rattle.sat.specs.declared.SearchResult.the-variants.{Found, Nothing}
 use Rattle.book.specs.Limits.{maxChoices}
-use Rattle.reasons.specs.Contracts.{aimOn, aimOff, Against, deniedBy, Refutes, keyAt, Aimed, Obeying, Pooled, Stored, Counted, Refilled, Denies, Meeting, Parted, Seen, Sought, Exploring, Explored}
+use Rattle.reasons.specs.Contracts.{aimOn, aimOff, Against, deniedBy, Refutes, keyAt, Aimed, Obeying, Pooled, Stored, Counted, Refilled, Denies, Meeting, Parted, Seen, Exploring, Explored}
 use Rattle.reasons.specs.declared.Aim.{Aim}
 use Rattle.reasons.specs.declared.Part.{Part}
 use Rattle.reasons.specs.declared.State.{State}

@@ -8,19 +8,18 @@ use Prim.Native.Nat.{ℕ, _+_, _-_, _*_, _^_, _≤_, _<_}
 use native.Mathlib.Decide.{ℕ-discrete}
 use native.Mathlib.Omega.{arith}
 use borrow.Author.Tests.{not-false}
-use lib.Pow.{pow-mono}
-use lib.ListN.{length, getD}
-use Rattle.sets.specs.Sets.{width, bit, has, union, inter, diff, Within, Apart}
+use lib.ListN.{getD}
+use Rattle.sets.specs.Sets.{width, bit, has, union, inter, diff, Within}
 use Rattle.sets.specs.Laws.Bits.{bit-le, bit-zero, bit-inter, bit-diff, diff-lt, member-lt}
-use Rattle.sets.specs.Laws.Subset.{within-refl, within-trans, within-le, has-true, has-false, disjoint-apart, apart-symm}
+use Rattle.sets.specs.Laws.Subset.{within-le, has-true, has-false}
 use Rattle.sets.specs.Laws.Least.{some-member}
-use Rattle.items.specs.Cheapest.{InInterval, Hit, hit-narrow, hit-within, Witnessed}
+use Rattle.items.specs.Cheapest.{Hit, hit-narrow, hit-within}
 use Rattle.items.specs.Bounds.{bounding-start, bounding-charge, dead, fixing, no-set}
-use Rattle.items.specs.Contracts.{weightIn, Rows, AtMostEach, TakenOff, Lighter}
+use Rattle.items.specs.Contracts.{weightIn, Rows, TakenOff, Lighter}
 use Rattle.items.specs.Laws.Sums.{total-member}
 use Rattle.sat.specs.Contracts.{digit}
 use Rattle.book.specs.Limits.{maxChoices}
-use Rattle.reasons.specs.Contracts.{deniedBy, keyAt, makesTrue, Denies, Meeting, Opens, Shown, Noted, Roomy, Charged, Parted, Charging, Bounded, Seen}
+use Rattle.reasons.specs.Contracts.{deniedBy, makesTrue, Denies, Meeting, Opens, Shown, Noted, Roomy, Charged, Parted, Charging, Bounded, Seen}
 use Rattle.reasons.specs.declared.Aim.{Aim}
 use Rattle.reasons.specs.declared.Part.{Part}
 use Rattle.reasons.specs.declared.Bounds.{Bounds}

@@ -6,11 +6,11 @@ use mathlib.Core.List.{List}
 use Prim.Native.Nat.{ℕ, _+_, _*_, _^_, _≤_, _<_}
 use native.Mathlib.Decide.{ℕ-discrete, decLt}
 use native.Mathlib.Omega.{arith}
-use lib.ListN.{getD, List·getD-eq-default}
+use lib.ListN.{List·getD-eq-default}
 use Rattle.sets.specs.Sets.{width, bit, has, union, inter, diff, insert, remove, Within, Apart, Lowest}
 use Rattle.sets.specs.Laws.Bits.{bit-le, bit-zero, bit-high, bit-union, bit-diff, bit-remove-same, bit-remove-other, union-lt, member-lt}
 use Rattle.sets.specs.Laws.Subset.{has-true, has-false, one-has, zero-has, within-refl, within-le, within-trans}
-use Rattle.items.specs.Weights.{sumBelow, total}
+use Rattle.items.specs.Weights.{total}
 use Rattle.items.specs.Cheapest.{Least, InInterval, least-minimum, least-none, least-both, least-same, remove-within, remove-less}
 use Rattle.items.specs.Witnesses.{pool-empty}
 use Rattle.items.specs.Contracts.{weightIn}
@@ -21,7 +21,7 @@ use Rattle.book.specs.Limits.{maxChoices, maxCost}
 use Rattle.consequence.specs.Laws.Masks.{to-theory, of-theory, none-to-theory, none-of-theory}
 use Rattle.problem.specs.Problem.{costOf, literalCost}
 use Rattle.step.specs.Meaning.{Question, setCost, literalOf, yesGoals, noGoals, goals, reasonsOn, reasonsOff, againstOn, againstOff, candidateCost}
-use Rattle.reasons.specs.Contracts.{aimOn, aimOff, Refutes, keyAt, Aimed, Pooled, Sought, Exploring, Explored}
+use Rattle.reasons.specs.Contracts.{aimOn, aimOff, Refutes, keyAt, Pooled, Sought, Exploring, Explored}
 use Rattle.step.specs.Contracts.{knownCost, costUnit, itemWeight, Weighed, sumOf, keyOf, Small, maskQuestion, aimAt, whole, openGoals, Ready, ReadyWithGoal, Picks, GoalAndSet, keyOfPair, LeastUnder, LeastFound, Trying, Searching}
 use Rattle.reasons.specs.Laws.Explores.{aim-posed}
 use Rattle.step.specs.Laws.Known.{cond-not, open-at, sign-of, Forcing, all-picked}
