@@ -71,6 +71,11 @@ pub record Stored (ms : List ℕ) (state : State) (m : ℕ) (us : List ℕ) (r :
   pub same-best : r .best ≡ state .best
   pub kept : Kept ms (state .used) m us (r .used)
 
+-- The least key so far is the key, and the number of models is as it was.
+pub record Improved (state : State) (key : ℕ) (r : State) : Type 0 where
+  pub is-key : r .best ≡ key
+  pub same-used : r .used ≡ state .used
+
 -- The least key so far and the number of models are as they were.
 pub record Counted (state r : State) : Type 0 where
   pub same-best : r .best ≡ state .best
@@ -152,8 +157,8 @@ pub record Bounded (ws : List ℕ) (aim : Aim) (part : Part) (ms : List ℕ) (us
 -- where one is open.
 abbrev pub Sees : (ℕ → Type 0) → List ℕ → Aim → Part → ℕ → Look → Type 0
 Sees Con ws aim part best Look.Dead = Least (InInterval Con (part .chosen) (part .limit)) (keyAt ws aim) best best
-Sees Con ws aim part best (Look.Open limit w free) =
-    Narrowed Con (keyAt ws aim) (part .chosen) (part .limit) best limit × Witnessed Con (part .chosen) limit w × (part .key < best)
+Sees Con ws aim part best (Look.Open o) =
+    Narrowed Con (keyAt ws aim) (part .chosen) (part .limit) best (o .limit) × Witnessed Con (part .chosen) (o .limit) (o .witness) × (part .key < best)
 
 pub record Seen (Con : ℕ → Type 0) (ws : List ℕ) (aim : Aim) (part : Part) (best : ℕ) (r : Look) : Type 0 where
   pub said : Sees Con ws aim part best r

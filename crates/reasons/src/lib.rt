@@ -7,7 +7,7 @@ ghost use lib.ListN.{length};
 ghost use Rattle.sets.specs.Sets.{width};
 ghost use Rattle.items.specs.Cheapest.{Hit};
 ghost use Rattle.sat.specs.Contracts.{Searched};
-ghost use Rattle.reasons.specs.Contracts.{aimOn, aimOff, Against, deniedBy, makesTrue, Refutes, Aimed, Pooled, Stored, Meeting, Shown, Noted, Roomy, Charged, Parted, Bounded, Seen, Counted, Refilled, Exploring, Explored};
+ghost use Rattle.reasons.specs.Contracts.{aimOn, aimOff, Against, deniedBy, makesTrue, Refutes, Aimed, Pooled, Stored, Meeting, Shown, Noted, Roomy, Charged, Parted, Bounded, Seen, Improved, Counted, Refilled, Exploring, Explored};
 use book::Book;
 use sat::Partial;
 use sat::SearchResult;
@@ -54,12 +54,18 @@ struct Bounds {
     size: u32,
 }
 
-// What a look at a part tells: no candidate of it has a key below the least so far; or the limit within which such
-// candidates lie, and an open witness, 0 where there is none. No promise depends on `free`, the items that the bound has
-// used up and those chosen.
+// What a look leaves of a part: the limit within which its candidates with a key below the least so far lie, and an open
+// witness, 0 where there is none. No promise depends on `free`, the items that the bound has used up and those chosen.
+struct OpenPart {
+    limit: u64,
+    witness: u64,
+    free: u64,
+}
+
+// What a look at a part tells: that no candidate of it has a key below the least so far, or what it leaves.
 enum Look {
     Dead,
-    Open { limit: u64, witness: u64, free: u64 },
+    Open(OpenPart),
 }
 
 // The looks from one question that is asked for the pool alone to the next.
@@ -242,11 +248,20 @@ fn look_at(
     }
     let rest = sets::difference(part.limit, part.chosen);
     let kept = items::lighter(&left, rest, state.best - b.bound);
-    Look::Open {
+    Look::Open(OpenPart {
         limit: sets::union(part.chosen, kept),
         witness: b.witness,
         free: sets::union(part.chosen, b.spent),
-    }
+    })
+}
+
+// The same with another least key so far.
+fn improved(state: State, key: u64) -> State
+    ensures { λ r. ⌜ Improved state key r ⌝ }
+{
+    let mut after = state;
+    after.best = key;
+    after
 }
 
 // One look more since the last question that was asked for the pool alone.
@@ -268,11 +283,7 @@ fn counted(state: State) -> State
 fn pool_due(seen: Look, state: State) -> bool {
     match seen {
         Look::Dead => false,
-        Look::Open {
-            limit: _,
-            witness: _,
-            free: _,
-        } => LOOKS_A_QUESTION <= state.looks,
+        Look::Open(_) => LOOKS_A_QUESTION <= state.looks,
     }
 }
 
@@ -291,12 +302,7 @@ fn refill(
     requires { ⌜ Pooled n (now yes) (now no) (now pool) (state .used) ⌝ }
     ensures { λ r. ⌜ Refilled n (now (yes .entry)) (now (no .entry)) (state .best) (now (pool .exit)) r ⌝ }
 {
-    let Look::Open {
-        limit: _,
-        witness: _,
-        free,
-    } = seen
-    else {
+    let Look::Open(open) = seen else {
         return state;
     };
     let rested = State {
@@ -305,7 +311,7 @@ fn refill(
         next: state.next,
         looks: 0,
     };
-    match ask(n, yes, no, aim, free) {
+    match ask(n, yes, no, aim, open.free) {
         SearchResult::Nothing => rested,
         SearchResult::Found(m) => store(pool, rested, m),
     }
@@ -354,29 +360,20 @@ fn descend(
     requires { ⌜ Seen (Refutes n (now yes) (now no) aim) (now weights) aim part (state .best) seen ⌝ }
     ensures { λ r. ⌜ Explored n (now (yes .entry)) (now (no .entry)) (now (weights .entry)) aim part (state .best) (now (pool .exit)) r ⌝ }
 {
-    let Look::Open {
-        limit,
-        witness,
-        free: _,
-    } = seen
-    else {
+    let Look::Open(open) = seen else {
         return state;
     };
+    let witness = open.witness;
     let within = Part {
         chosen: part.chosen,
-        limit: limit,
+        limit: open.limit,
         key: part.key,
     };
     if witness != 0 {
         return branch(n, yes, no, weights, pool, aim, within, witness, state);
     }
     match ask(n, yes, no, aim, part.chosen) {
-        SearchResult::Nothing => State {
-            best: part.key,
-            used: state.used,
-            next: state.next,
-            looks: state.looks,
-        },
+        SearchResult::Nothing => improved(state, part.key),
         SearchResult::Found(m) => {
             let more = store(pool, state, m);
             let made_false = denied(aim, m);

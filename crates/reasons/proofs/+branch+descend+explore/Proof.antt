@@ -17,16 +17,17 @@ use Rattle.reasons.proofs.explore.Reads as explore
 use Rattle.reasons.proofs.explore.Kinds as explore-kinds
 use Rattle.reasons.proofs.+branch+descend+explore.Lts-explore as explore-lts
 use Rattle.items.proofs.cheapest_item.Reads as cheapest-item-reads
-use Rattle.sets.proofs.insert.Reads as insert-reads
-use Rattle.sets.proofs.intersection.Reads as intersection-reads
-use Rattle.sets.proofs.remove.Reads as remove-reads
 use Rattle.reasons.proofs.ask.Reads as ask-reads
 use Rattle.reasons.proofs.counted.Reads as counted-reads
 use Rattle.reasons.proofs.denied.Reads as denied-reads
+use Rattle.reasons.proofs.improved.Reads as improved-reads
 use Rattle.reasons.proofs.look_at.Reads as look-at-reads
 use Rattle.reasons.proofs.pool_due.Reads as pool-due-reads
 use Rattle.reasons.proofs.refill.Reads as refill-reads
 use Rattle.reasons.proofs.store.Reads as store-reads
+use Rattle.sets.proofs.insert.Reads as insert-reads
+use Rattle.sets.proofs.intersection.Reads as intersection-reads
+use Rattle.sets.proofs.remove.Reads as remove-reads
 use Rattle.reasons.proofs.+branch+descend+explore.{statement}
 use Rattle.reasons.proofs.+branch+descend+explore.Tie.{close}
 
@@ -63,7 +64,7 @@ branch-claims t = (intersection-reads.Asked, intersection-reads.Learnt, cheapest
 
 -- what the callees of `descend` ask and say
 abbrev descend-claims : ℕ → descend-lts.Claims
-descend-claims t = (branch-below t, branch.Post, ask-reads.Asked, ask-reads.Learnt, store-reads.Asked, store-reads.Learnt, denied-reads.Asked, denied-reads.Learnt)
+descend-claims t = (branch-below t, branch.Post, ask-reads.Asked, ask-reads.Learnt, improved-reads.Asked, improved-reads.Learnt, store-reads.Asked, store-reads.Learnt, denied-reads.Asked, denied-reads.Learnt)
 
 -- what the callees of `explore` ask and say
 abbrev explore-claims : ℕ → explore-lts.Claims
@@ -140,6 +141,9 @@ descend-ask-requires t c κs = search (needs, descend-laws)
 
 descend-enum-told-2 : (t : ℕ) → descend-lts.Need-enum-told-2 (descend-claims t) (descend-at t) descend.Post
 descend-enum-told-2 t c = search (needs, descend-laws)
+
+descend-improved-requires : (t : ℕ) → descend-lts.Need-improved-requires (descend-claims t) (descend-at t) descend.Post
+descend-improved-requires t c κs = search (needs, descend-laws)
 
 descend-enum-known-m : (t : ℕ) → descend-lts.Need-enum-known-m (descend-claims t) (descend-at t) descend.Post
 descend-enum-known-m t c = search (needs, descend-laws)
@@ -234,6 +238,7 @@ pub +branch+descend+explore-spec : {M : Type 1} → statement M
     (descend-returns-2 t)
     (descend-ask-requires t)
     (descend-enum-told-2 t)
+    (descend-improved-requires t)
     (descend-enum-known-m t)
     (descend-store-requires t)
     (descend-denied-requires t)

@@ -22,10 +22,11 @@ use Rattle.sat.specs.Laws.Searches.{searched-model, searched-none}
 use Rattle.sat.specs.declared.SearchResult.{SearchResult}
 use Rattle.sat.specs.declared.SearchResult.the-variants.{Found, Nothing}
 use Rattle.book.specs.Limits.{maxChoices}
-use Rattle.reasons.specs.Contracts.{aimOn, aimOff, Against, deniedBy, Refutes, keyAt, Aimed, Obeying, Pooled, Stored, Counted, Refilled, Denies, Meeting, Parted, Seen, Exploring, Explored}
+use Rattle.reasons.specs.Contracts.{aimOn, aimOff, Against, deniedBy, Refutes, keyAt, Aimed, Obeying, Pooled, Stored, Improved, Counted, Refilled, Denies, Meeting, Parted, Seen, Exploring, Explored}
 use Rattle.reasons.specs.declared.Aim.{Aim}
 use Rattle.reasons.specs.declared.Part.{Part}
 use Rattle.reasons.specs.declared.State.{State}
+use Rattle.reasons.specs.declared.OpenPart.{OpenPart}
 use Rattle.reasons.specs.declared.Look.{Look}
 use Rattle.reasons.specs.declared.Look.the-variants as Look
 
@@ -207,11 +208,11 @@ module _ {n : ℕ} {ys ns ws : List ℕ} {aim : Aim} {part : Part} (x : Explorin
 
     rules-see : {best : ℕ} (r : Look) → Seen (Meeting aim ms used) ws aim part best r → Seen (Refutes n ys ns aim) ws aim part best r
     rules-see Look.Dead s = record { said = dead-stronger implied (s .said) }
-    rules-see (Look.Open limit w free) s =
+    rules-see (Look.Open o) s =
         record {
           said = (
             narrowed-stronger implied (s .said .0),
-            record { hits = λ ne. hit-stronger (λ t i. implied t (within-trans t limit (part .limit) i (s .said .0 .smaller))) (s .said .1 .hits ne) },
+            record { hits = λ ne. hit-stronger (λ t i. implied t (within-trans t (o .limit) (part .limit) i (s .said .0 .smaller))) (s .said .1 .hits ne) },
             s .said .2,
           );
         }
@@ -250,45 +251,45 @@ module _ {n : ℕ} {ys ns ws : List ℕ} {aim : Aim} {part : Part} where
   descend-dead {state = state} p s e =
       record { cheapest = subst (λ (r : Look). Seen (Refutes n ys ns aim) ws aim part (state .best) r) e s .said; pooled = p }
 
-  module _ (x : Exploring n ys ns ws aim part) {best : ℕ} {seen : Look} {limit w free : ℕ} (s : Seen (Refutes n ys ns aim) ws aim part best seen)
-      (e : seen ≡ Look.Open limit w free) where
-    opened : Seen (Refutes n ys ns aim) ws aim part best (Look.Open limit w free)
+  module _ (x : Exploring n ys ns ws aim part) {best : ℕ} {seen : Look} {o : OpenPart} (s : Seen (Refutes n ys ns aim) ws aim part best seen)
+      (e : seen ≡ Look.Open o) where
+    opened : Seen (Refutes n ys ns aim) ws aim part best (Look.Open o)
     opened = subst (λ (r : Look). Seen (Refutes n ys ns aim) ws aim part best r) e s
 
-    pub descend-within : Exploring n ys ns ws aim (record { chosen = part .chosen; limit = limit; key = part .key })
+    pub descend-within : Exploring n ys ns ws aim (record { chosen = part .chosen; limit = o .limit; key = part .key })
     descend-within =
         record {
           sought = x .sought;
           nested = opened .said .0 .nested;
-          known = within-trans limit (part .limit) (union (aim .on) (aim .off)) (opened .said .0 .smaller) (x .known);
+          known = within-trans (o .limit) (part .limit) (union (aim .on) (aim .off)) (opened .said .0 .smaller) (x .known);
           keyed = x .keyed;
         }
 
-    pub descend-less : {t : ℕ} → 3 * (part .limit - part .chosen) + 1 ≡ t → 3 * (limit - part .chosen) < t
+    pub descend-less : {t : ℕ} → 3 * (part .limit - part .chosen) + 1 ≡ t → 3 * (o .limit - part .chosen) < t
     descend-less q = omega (arith, within-le _ _ (opened .said .0 .smaller))
 
-    pub descend-hit : (w ≡ 0 → ⊥) → Hit (Refutes n ys ns aim) (part .chosen) limit w
-    descend-hit ne = opened .said .1 .hits ne
+    pub descend-hit : {w : ℕ} → w ≡ o .witness → (w ≡ 0 → ⊥) → Hit (Refutes n ys ns aim) (part .chosen) (o .limit) w
+    descend-hit d ne = rw d (opened .said .1 .hits (λ z. ne (d ∙ z)))
 
     -- what holds within the limit
-    pub descend-narrowed : {us : List ℕ} {r : State} {key : ℕ} → Explored n ys ns ws aim (record { chosen = part .chosen; limit = limit; key = key }) best us r
+    pub descend-narrowed : {us : List ℕ} {r : State} {key : ℕ} → Explored n ys ns ws aim (record { chosen = part .chosen; limit = o .limit; key = key }) best us r
         → Explored n ys ns ws aim part best us r
     descend-narrowed h = record { cheapest = narrowed (opened .said .0) (h .cheapest); pooled = h .pooled }
 
     -- `chosen` is a candidate
-    pub descend-found : {ms : List ℕ} {used : ℕ} {r : State} {a : SearchResult} → Pooled n ys ns ms used
-        → Searched n ys ns (aimOn aim (part .chosen)) (aimOff aim (part .chosen)) a → a ≡ Nothing → r .best ≡ part .key → r .used ≡ used
+    pub descend-found : {ms : List ℕ} {state r : State} {a : SearchResult} → Pooled n ys ns ms (state .used)
+        → Searched n ys ns (aimOn aim (part .chosen)) (aimOff aim (part .chosen)) a → a ≡ Nothing → Improved state (part .key) r
         → Explored n ys ns ws aim part best ms r
-    descend-found p a d k u =
+    descend-found p a d i =
         record {
-          cheapest = rw (k, x .keyed) (hit (key-rises ws aim) (x .nested) (searched-none a d) (omega (arith, opened .said .2, x .keyed)));
-          pooled = rw u p;
+          cheapest = rw (i .is-key, x .keyed) (hit (key-rises ws aim) (x .nested) (searched-none a d) (omega (arith, opened .said .2, x .keyed)));
+          pooled = rw (i .same-used) p;
         }
 
     -- what the model makes false is a witness
-    pub descend-witness : {f o : ℕ} {a : SearchResult} → Searched n ys ns (aimOn aim (part .chosen)) (aimOff aim (part .chosen)) a → a ≡ Found f
-        → o ≡ deniedBy (aim .on) (aim .off) f → Hit (Refutes n ys ns aim) (part .chosen) limit o
-    descend-witness {f} a d q = rw q (model-hit n ys ns aim (part .chosen) limit f (descend-within .known) (searched-model a d))
+    pub descend-witness : {f d : ℕ} {a : SearchResult} → Searched n ys ns (aimOn aim (part .chosen)) (aimOff aim (part .chosen)) a → a ≡ Found f
+        → d ≡ deniedBy (aim .on) (aim .off) f → Hit (Refutes n ys ns aim) (part .chosen) (o .limit) d
+    descend-witness {f} a m q = rw q (model-hit n ys ns aim (part .chosen) (o .limit) f (descend-within .known) (searched-model a m))
 
   pub descend-more : {ms us os : List ℕ} {state more r : State} {f : ℕ} → Stored ms state f us more → Explored n ys ns ws aim part (more .best) os r
       → Explored n ys ns ws aim part (state .best) os r

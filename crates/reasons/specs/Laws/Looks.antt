@@ -25,6 +25,7 @@ use Rattle.reasons.specs.declared.Part.{Part}
 use Rattle.reasons.specs.declared.Bounds.{Bounds}
 use Rattle.reasons.specs.declared.Witness.{Witness}
 use Rattle.reasons.specs.declared.Witness.the-variants as Witness
+use Rattle.reasons.specs.declared.OpenPart.{OpenPart}
 use Rattle.reasons.specs.declared.Look.the-variants as Look
 
 -- ---- `makes_true` and `witness_of`
@@ -210,12 +211,12 @@ module _ {ws : List ℕ} {aim : Aim} {part : Part} {ms : List ℕ} {used : ℕ} 
     pub look-rows : {rest : ℕ} → rest ≡ diff (part .limit) (part .chosen) → Rows left rest
     look-rows e = record { rows = rw (x .rows, e) (diff-lt maxChoices (part .limit) (part .chosen) (p .small)) }
 
-    pub look-open : {best rest kept limit : ℕ} (free : ℕ) → b .bound < best → rest ≡ diff (part .limit) (part .chosen)
-        → Lighter left rest (best - b .bound) kept → limit ≡ union (part .chosen) kept
-        → Seen (Meeting aim ms used) ws aim part best (Look.Open limit (b .witness) free)
-    look-open {best} {rest} {kept} {limit} free h e l d =
+    pub look-open : {best rest kept : ℕ} {o : OpenPart} → b .bound < best → rest ≡ diff (part .limit) (part .chosen)
+        → Lighter left rest (best - b .bound) kept → o .limit ≡ union (part .chosen) kept → o .witness ≡ b .witness
+        → Seen (Meeting aim ms used) ws aim part best (Look.Open o)
+    look-open {best} {rest} {kept} h e l d w =
         let n = fixing (x .lower) kept (p .small) (p .nested) h inside (λ v i k. l .all-lighter v (rw e i) k) in
-        record { said = rw d (n, record { hits = λ ne. hit-narrow (x .witnessed .hits ne) (n .smaller) }, omega (arith, x .from-key)) }
+        record { said = rw (d, w) (n, record { hits = λ ne. hit-narrow (x .witnessed .hits ne) (n .smaller) }, omega (arith, x .from-key)) }
       where
         inside : Within kept (diff (part .limit) (part .chosen))
         inside = record { keeps = at }
