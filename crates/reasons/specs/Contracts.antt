@@ -9,7 +9,7 @@ use Rattle.sets.specs.Sets.{width, bit, has, union, inter, diff, insert, Within
 use Rattle.items.specs.Cheapest.{Least, InInterval, Witnessed}
 use Rattle.items.specs.Witnesses.{Pool, Kept}
 use Rattle.items.specs.Bounds.{sumKey, LowerBound, Bounding, Narrowed}
-use Rattle.items.specs.Contracts.{weightIn, Rows, AtMostEach, TakenOff}
+use Rattle.items.specs.Contracts.{weightIn, Rows, AtMostEach, TakenOff, Item}
 use Rattle.book.specs.Limits.{maxChoices}
 use Rattle.sat.specs.Meaning.{obeysAll, NoModel}
 use Rattle.sat.specs.Contracts.{Posed, digit}
@@ -21,6 +21,9 @@ use Rattle.reasons.specs.declared.Witness.{Witness}
 use Rattle.reasons.specs.declared.Witness.the-variants as Witness
 use Rattle.reasons.specs.declared.Look.{Look}
 use Rattle.reasons.specs.declared.Look.the-variants as Look
+use Rattle.reasons.specs.declared.Looking.{Looking}
+use Rattle.reasons.specs.declared.Split.{Split}
+use Rattle.reasons.specs.declared.Split.the-variants as Split
 
 -- ---- the question for one goal
 
@@ -178,7 +181,62 @@ pub record Exploring (n : ℕ) (ys ns ws : List ℕ) (aim : Aim) (part : Part) :
   pub known : Within (part .limit) (union (aim .on) (aim .off))
   pub keyed : part .key ≡ keyAt ws aim (part .chosen)
 
+-- A look at a part of which the candidates are told; the pool holds fillings that obey the rules.
+pub record LookedAt (n : ℕ) (ys ns ws : List ℕ) (aim : Aim) (part : Part) (ms : List ℕ) (r : Looking) : Type 0 where
+  pub seen : Seen (Refutes n ys ns aim) ws aim part (r .state .best) (r .look)
+  pub pooled : Pooled n ys ns ms (r .state .used)
+
+-- The same, and the least key so far is as it was.
+pub record LookedFrom (n : ℕ) (ys ns ws : List ℕ) (aim : Aim) (part : Part) (best : ℕ) (ms : List ℕ) (r : Looking) : Type 0 where
+  pub looked : LookedAt n ys ns ws aim part ms r
+  pub same-best : r .state .best ≡ best
+
 -- The least of a bound and the keys of the part's candidates. The pool holds fillings that obey the rules.
 pub record Explored (n : ℕ) (ys ns ws : List ℕ) (aim : Aim) (part : Part) (best : ℕ) (ms : List ℕ) (r : State) : Type 0 where
   pub cheapest : Least (InInterval (Refutes n ys ns aim) (part .chosen) (part .limit)) (keyAt ws aim) best (r .best)
   pub pooled : Pooled n ys ns ms (r .used)
+
+-- ---- where a part is split
+
+-- No item of the witness is within the limit, or one of them.
+abbrev pub SplitsAt : ℕ → ℕ → State → Split → Type 0
+SplitsAt limit w state (Split.Done r) = (r ≡ state) × (inter w limit ≡ 0)
+SplitsAt limit w state (Split.At l item r) = (r ≡ state) × (l ≡ limit) × Item (inter w limit) item
+
+pub record SplitAt (limit w : ℕ) (state : State) (r : Split) : Type 0 where
+  pub said : SplitsAt limit w state r
+
+-- A limit within which each candidate with a key below best lies, and an item within it that is not chosen.
+pub record SplitsOn (n : ℕ) (ys ns ws : List ℕ) (aim : Aim) (part : Part) (best : ℕ) (ms : List ℕ) (limit item : ℕ) (r : State) : Type 0 where
+  pub same-best : r .best ≡ best
+  pub pooled : Pooled n ys ns ms (r .used)
+  pub narrow : Narrowed (Refutes n ys ns aim) (keyAt ws aim) (part .chosen) (part .limit) best limit
+  pub small : item < width
+  pub limited : bit limit item ≡ 1
+  pub unused : bit (part .chosen) item ≡ 0
+
+-- The part is done with, or split at an item.
+abbrev pub SplitsUp : ℕ → List ℕ → List ℕ → List ℕ → Aim → Part → ℕ → List ℕ → Split → Type 0
+SplitsUp n ys ns ws aim part best ms (Split.Done r) = Explored n ys ns ws aim part best ms r
+SplitsUp n ys ns ws aim part best ms (Split.At limit item r) = SplitsOn n ys ns ws aim part best ms limit item r
+
+pub record SplitUp (n : ℕ) (ys ns ws : List ℕ) (aim : Aim) (part : Part) (best : ℕ) (ms : List ℕ) (r : Split) : Type 0 where
+  pub said : SplitsUp n ys ns ws aim part best ms r
+
+-- The item has a weight, and the key has room for it.
+pub record ItemFits (ws : List ℕ) (part : Part) (item : ℕ) : Type 0 where
+  pub row : item < maxChoices
+  pub fits : part .key + weightIn ws item < 2 ^ width
+
+-- The part of the sets with the item.
+abbrev pub withItem : List ℕ → Part → ℕ → ℕ → Part
+withItem ws part limit item = record { chosen = insert (part .chosen) item; limit = limit; key = part .key + weightIn ws item }
+
+-- What is left of a part while it is searched: from the least key so far, the least of the rest is the least of the whole.
+pub record Remaining (n : ℕ) (ys ns ws : List ℕ) (aim : Aim) (part : Part) (best : ℕ) (ms : List ℕ) (rest : Part) (state : State) : Type 0 where
+  pub exploring : Exploring n ys ns ws aim rest
+  pub same-chosen : rest .chosen ≡ part .chosen
+  pub smaller : rest .limit ≤ part .limit
+  pub pooled : Pooled n ys ns ms (state .used)
+  pub finish : (r : ℕ) → Least (InInterval (Refutes n ys ns aim) (rest .chosen) (rest .limit)) (keyAt ws aim) (state .best) r
+      → Least (InInterval (Refutes n ys ns aim) (part .chosen) (part .limit)) (keyAt ws aim) best r

@@ -5,9 +5,9 @@ ghost use mathlib.Core.Path.{_≡_};
 ghost use Prim.Native.Nat.{_<_, _≤_};
 ghost use lib.ListN.{length};
 ghost use Rattle.sets.specs.Sets.{width};
-ghost use Rattle.items.specs.Cheapest.{Hit};
+ghost use Rattle.items.specs.Contracts.{Rows};
 ghost use Rattle.sat.specs.Contracts.{Searched};
-ghost use Rattle.reasons.specs.Contracts.{aimOn, aimOff, Against, deniedBy, makesTrue, Refutes, Aimed, Pooled, Stored, Meeting, Shown, Noted, Roomy, Charged, Parted, Bounded, Seen, Improved, Counted, Refilled, Exploring, Explored};
+ghost use Rattle.reasons.specs.Contracts.{aimOn, aimOff, Against, deniedBy, makesTrue, Aimed, Pooled, Stored, Meeting, Shown, Noted, Roomy, Charged, Parted, Bounded, Seen, Improved, Counted, Refilled, Exploring, LookedAt, LookedFrom, SplitAt, SplitUp, ItemFits, withItem, Explored};
 use book::Book;
 use sat::Partial;
 use sat::SearchResult;
@@ -66,6 +66,18 @@ struct OpenPart {
 enum Look {
     Dead,
     Open(OpenPart),
+}
+
+// A look, and what the search carries along after it.
+struct Looking {
+    look: Look,
+    state: State,
+}
+
+// Where the search of a part goes on: nowhere, or with the sets within a limit that hold an item and those that do not.
+enum Split {
+    Done(State),
+    At { limit: u64, item: u32, state: State },
 }
 
 // The looks from one question that is asked for the pool alone to the next.
@@ -317,7 +329,104 @@ fn refill(
     }
 }
 
-// The least of the least key so far and the keys of the candidates in a part.
+// A look at a part, with one model more in the pool where that is due.
+fn look_with_pool(
+    n: u32,
+    yes: &[u64],
+    no: &[u64],
+    weights: &[u64; Book::MAX_CHOICES],
+    pool: &mut [u64],
+    aim: Aim,
+    part: Part,
+    state: State,
+) -> Looking
+    requires { ⌜ Exploring n (now yes) (now no) (now weights) aim part ⌝ }
+    requires { ⌜ Pooled n (now yes) (now no) (now pool) (state .used) ⌝ }
+    ensures { λ r. ⌜ LookedFrom n (now (yes .entry)) (now (no .entry)) (now (weights .entry)) aim part (state .best) (now (pool .exit)) r ⌝ }
+{
+    let first = look_at(weights, pool, aim, part, state);
+    let here = counted(state);
+    if !pool_due(first, here) {
+        return Looking {
+            look: first,
+            state: here,
+        };
+    }
+    let filled = refill(n, yes, no, pool, aim, first, here);
+    let second = look_at(weights, pool, aim, part, filled);
+    Looking {
+        look: second,
+        state: filled,
+    }
+}
+
+// Where to split a part within whose limit each candidate holds an item of `witness`: at its cheapest item. With no such
+// item there is no candidate.
+fn split_at(weights: &[u64; Book::MAX_CHOICES], limit: u64, witness: u64, state: State) -> Split
+    requires { ⌜ Rows (now weights) limit ⌝ }
+    ensures { λ r. ⌜ SplitAt limit witness state r ⌝ }
+{
+    let left = sets::intersection(witness, limit);
+    if left == 0 {
+        return Split::Done(state);
+    }
+    Split::At {
+        limit: limit,
+        item: items::cheapest_item(weights, left),
+        state: state,
+    }
+}
+
+// The same of a part after a look. Only where no witness is open is `chosen` put to the model search: it is a candidate, or
+// the model that is found is a witness, and one more for the pool.
+fn split_part(
+    n: u32,
+    yes: &[u64],
+    no: &[u64],
+    weights: &[u64; Book::MAX_CHOICES],
+    pool: &mut [u64],
+    aim: Aim,
+    part: Part,
+    seen: Looking,
+) -> Split
+    requires { ⌜ Exploring n (now yes) (now no) (now weights) aim part ⌝ }
+    requires { ⌜ LookedAt n (now yes) (now no) (now weights) aim part (now pool) seen ⌝ }
+    ensures { λ r. ⌜ SplitUp n (now (yes .entry)) (now (no .entry)) (now (weights .entry)) aim part (seen .state .best) (now (pool .exit)) r ⌝ }
+{
+    let state = seen.state;
+    let look = seen.look;
+    let Look::Open(open) = look else {
+        return Split::Done(state);
+    };
+    let limit = open.limit;
+    let witness = open.witness;
+    if witness != 0 {
+        return split_at(weights, limit, witness, state);
+    }
+    match ask(n, yes, no, aim, part.chosen) {
+        SearchResult::Nothing => Split::Done(improved(state, part.key)),
+        SearchResult::Found(m) => {
+            let more = store(pool, state, m);
+            split_at(weights, limit, denied(aim, m), more)
+        }
+    }
+}
+
+// The part of the sets with one item more.
+fn with_item(weights: &[u64; Book::MAX_CHOICES], part: Part, limit: u64, item: u32) -> Part
+    requires { ⌜ ItemFits (now weights) part item ⌝ }
+    ensures { λ r. ⌜ r ≡ withItem (now (weights .entry)) part limit item ⌝ }
+{
+    let at = item as usize;
+    Part {
+        chosen: sets::insert(part.chosen, item),
+        limit: limit,
+        key: part.key + weights[at],
+    }
+}
+
+// The least of the least key so far and the keys of the candidates in a part: at each split first those with the item, then
+// those without it.
 pub fn explore(
     n: u32,
     yes: &[u64],
@@ -332,90 +441,17 @@ pub fn explore(
     requires { ⌜ Pooled n (now yes) (now no) (now pool) (state .used) ⌝ }
     ensures { λ r. ⌜ Explored n (now (yes .entry)) (now (no .entry)) (now (weights .entry)) aim part (state .best) (now (pool .exit)) r ⌝ }
 {
-    let seen = look_at(weights, pool, aim, part, state);
-    let here = counted(state);
-    if !pool_due(seen, here) {
-        return descend(n, yes, no, weights, pool, aim, part, seen, here);
-    }
-    let filled = refill(n, yes, no, pool, aim, seen, here);
-    let again = look_at(weights, pool, aim, part, filled);
-    descend(n, yes, no, weights, pool, aim, part, again, filled)
-}
-
-// The same after a look. Only where no witness is open is `chosen` put to the model search: it is a candidate, or the model
-// that is found is a witness, and one more for the pool.
-fn descend(
-    n: u32,
-    yes: &[u64],
-    no: &[u64],
-    weights: &[u64; Book::MAX_CHOICES],
-    pool: &mut [u64],
-    aim: Aim,
-    part: Part,
-    seen: Look,
-    state: State,
-) -> State
-    requires { ⌜ Exploring n (now yes) (now no) (now weights) aim part ⌝ }
-    requires { ⌜ Pooled n (now yes) (now no) (now pool) (state .used) ⌝ }
-    requires { ⌜ Seen (Refutes n (now yes) (now no) aim) (now weights) aim part (state .best) seen ⌝ }
-    ensures { λ r. ⌜ Explored n (now (yes .entry)) (now (no .entry)) (now (weights .entry)) aim part (state .best) (now (pool .exit)) r ⌝ }
-{
-    let Look::Open(open) = seen else {
-        return state;
-    };
-    let witness = open.witness;
-    let within = Part {
-        chosen: part.chosen,
-        limit: open.limit,
-        key: part.key,
-    };
-    if witness != 0 {
-        return branch(n, yes, no, weights, pool, aim, within, witness, state);
-    }
-    match ask(n, yes, no, aim, part.chosen) {
-        SearchResult::Nothing => improved(state, part.key),
-        SearchResult::Found(m) => {
-            let more = store(pool, state, m);
-            let made_false = denied(aim, m);
-            branch(n, yes, no, weights, pool, aim, within, made_false, more)
+    let mut rest = part;
+    let mut now = state;
+    loop {
+        let seen = look_with_pool(n, yes, no, weights, pool, aim, rest, now);
+        match split_part(n, yes, no, weights, pool, aim, rest, seen) {
+            Split::Done(last) => return last,
+            Split::At { limit, item, state } => {
+                let with = with_item(weights, rest, limit, item);
+                now = explore(n, yes, no, weights, pool, aim, with, state);
+                rest.limit = sets::remove(limit, item);
+            }
         }
     }
-}
-
-// The same where each candidate of the part holds an item of `witness`: first those with the cheapest such item, then those
-// without it.
-fn branch(
-    n: u32,
-    yes: &[u64],
-    no: &[u64],
-    weights: &[u64; Book::MAX_CHOICES],
-    pool: &mut [u64],
-    aim: Aim,
-    part: Part,
-    witness: u64,
-    state: State,
-) -> State
-    requires { ⌜ Exploring n (now yes) (now no) (now weights) aim part ⌝ }
-    requires { ⌜ Pooled n (now yes) (now no) (now pool) (state .used) ⌝ }
-    requires { ⌜ Hit (Refutes n (now yes) (now no) aim) (part .chosen) (part .limit) witness ⌝ }
-    ensures { λ r. ⌜ Explored n (now (yes .entry)) (now (no .entry)) (now (weights .entry)) aim part (state .best) (now (pool .exit)) r ⌝ }
-{
-    let left = sets::intersection(witness, part.limit);
-    if left == 0 {
-        return state;
-    }
-    let v = items::cheapest_item(weights, left);
-    let at = v as usize;
-    let with = Part {
-        chosen: sets::insert(part.chosen, v),
-        limit: part.limit,
-        key: part.key + weights[at],
-    };
-    let found = explore(n, yes, no, weights, pool, aim, with, state);
-    let without = Part {
-        chosen: part.chosen,
-        limit: sets::remove(part.limit, v),
-        key: part.key,
-    };
-    explore(n, yes, no, weights, pool, aim, without, found)
 }

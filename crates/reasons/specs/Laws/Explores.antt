@@ -1,9 +1,9 @@
 -- The search for one goal: a law for each step of its functions. They are those of crate `items`, for the known literals with one goal. Assumes
 -- nothing.
-use mathlib.Core.Path.{_≡_, refl, sym, ap, subst, _∙_}
+use mathlib.Core.Path.{_≡_, refl, sym, subst, _∙_}
 use mathlib.Core.Bool.{Bool, true, false, not, cond}
 use mathlib.Core.List.{List}
-use Prim.Native.Nat.{ℕ, _+_, _-_, _*_, _^_, _≤_, _<_, min, max}
+use Prim.Native.Nat.{ℕ, _+_, _-_, _^_, _≤_, _<_, min, max}
 use native.Mathlib.Omega.{arith}
 use lib.Bits.{and-le-r}
 use lib.ListN.{length}
@@ -12,7 +12,7 @@ use Rattle.sets.specs.Laws.Bits.{bit-le, bit-union, bit-inter, bit-diff, member
 use Rattle.sets.specs.Laws.Subset.{within-trans, within-le, within-insert}
 use Rattle.items.specs.Cheapest.{Least, InInterval, Hit, hit, no-member, branch-on, hit-stronger, Monotone, within-remove, remove-within, insert-more, remove-less}
 use Rattle.items.specs.Witnesses.{Rising, Witness, witness, witness-hit, pool-kept}
-use Rattle.items.specs.Bounds.{narrowed, dead-stronger, narrowed-stronger}
+use Rattle.items.specs.Bounds.{Narrowed, narrowed, dead-stronger, narrowed-stronger}
 use Rattle.items.specs.Contracts.{weightIn, Rows, Item}
 use Rattle.items.specs.Laws.Sums.{total-le, total-insert}
 use Rattle.sat.specs.Meaning.{Model}
@@ -22,13 +22,16 @@ use Rattle.sat.specs.Laws.Searches.{searched-model, searched-none}
 use Rattle.sat.specs.declared.SearchResult.{SearchResult}
 use Rattle.sat.specs.declared.SearchResult.the-variants.{Found, Nothing}
 use Rattle.book.specs.Limits.{maxChoices}
-use Rattle.reasons.specs.Contracts.{aimOn, aimOff, Against, deniedBy, Refutes, keyAt, Aimed, Obeying, Pooled, Stored, Improved, Counted, Refilled, Denies, Meeting, Parted, Seen, Exploring, Explored}
+use Rattle.reasons.specs.Contracts.{aimOn, aimOff, Against, deniedBy, Refutes, keyAt, Aimed, Obeying, Pooled, Stored, Improved, Counted, Refilled, Denies, Meeting, Parted, Seen, Exploring, LookedAt, LookedFrom, Explored, SplitAt, SplitsOn, SplitUp, ItemFits, withItem, Remaining}
 use Rattle.reasons.specs.declared.Aim.{Aim}
 use Rattle.reasons.specs.declared.Part.{Part}
 use Rattle.reasons.specs.declared.State.{State}
 use Rattle.reasons.specs.declared.OpenPart.{OpenPart}
 use Rattle.reasons.specs.declared.Look.{Look}
 use Rattle.reasons.specs.declared.Look.the-variants as Look
+use Rattle.reasons.specs.declared.Looking.{Looking}
+use Rattle.reasons.specs.declared.Split.{Split}
+use Rattle.reasons.specs.declared.Split.the-variants as Split
 
 -- ---- a question
 
@@ -199,7 +202,7 @@ module _ {n : ℕ} {ys ns ws : List ℕ} {aim : Aim} {part : Part} (x : Explorin
         cheap = omega (arith, total-le (weightIn ws) maxChoices (part .limit) (union (aim .on) (aim .off)) (x .known), x .sought .cheap);
       }
 
-  -- ---- `explore`
+  -- ---- `look_with_pool`
 
   -- what the pool tells of a part holds of its candidates
   module _ {ms : List ℕ} {used : ℕ} (p : Pooled n ys ns ms used) where
@@ -217,184 +220,244 @@ module _ {n : ℕ} {ys ns ws : List ℕ} {aim : Aim} {part : Part} (x : Explorin
           );
         }
 
-  pub explore-seen : {ms : List ℕ} {state here : State} {r : Look} → Pooled n ys ns ms (state .used)
-      → Seen (Meeting aim ms (state .used)) ws aim part (state .best) r → Counted state here → Seen (Refutes n ys ns aim) ws aim part (here .best) r
-  explore-seen {r = r} p s c = rw (c .same-best) (rules-see p r s)
-
-  pub explore-again : {ms : List ℕ} {best : ℕ} {filled : State} {r : Look} → Refilled n ys ns best ms filled
-      → Seen (Meeting aim ms (filled .used)) ws aim part (filled .best) r → Seen (Refutes n ys ns aim) ws aim part (filled .best) r
-  explore-again {r = r} f s = rules-see (f .pooled) r s
-
-module _ {n : ℕ} {ys ns : List ℕ} where
-  pub explore-room : {ms : List ℕ} {used : ℕ} → Pooled n ys ns ms used → used ≤ length ms
-  explore-room p = p .room
-
-  pub explore-counted : {ms : List ℕ} {state here : State} → Pooled n ys ns ms (state .used) → Counted state here → Pooled n ys ns ms (here .used)
-  explore-counted p c = rw (c .same-used) p
-
-  module _ {ws : List ℕ} {aim : Aim} {part : Part} {us : List ℕ} {r : State} where
-    pub explored-first : {state here : State} → Counted state here → Explored n ys ns ws aim part (here .best) us r
-        → Explored n ys ns ws aim part (state .best) us r
-    explored-first c e = rw (c .same-best) at e
-
-    pub explored-again : {state here filled : State} {ms : List ℕ} → Counted state here → Refilled n ys ns (here .best) ms filled
-        → Explored n ys ns ws aim part (filled .best) us r → Explored n ys ns ws aim part (state .best) us r
-    explored-again c f e = rw (f .same-best, c .same-best) at e
-
-pub ruleset explore-laws = (explore-aimed, explore-parted, explore-seen, explore-again, explore-room, explore-counted, explored-first, explored-again)
-
--- ---- `descend`
-
-module _ {n : ℕ} {ys ns ws : List ℕ} {aim : Aim} {part : Part} where
-  pub descend-dead : {ms : List ℕ} {state : State} {seen : Look} → Pooled n ys ns ms (state .used)
-      → Seen (Refutes n ys ns aim) ws aim part (state .best) seen → seen ≡ Look.Dead → Explored n ys ns ws aim part (state .best) ms state
-  descend-dead {state = state} p s e =
-      record { cheapest = subst (λ (r : Look). Seen (Refutes n ys ns aim) ws aim part (state .best) r) e s .said; pooled = p }
-
-  module _ (x : Exploring n ys ns ws aim part) {best : ℕ} {seen : Look} {o : OpenPart} (s : Seen (Refutes n ys ns aim) ws aim part best seen)
-      (e : seen ≡ Look.Open o) where
-    opened : Seen (Refutes n ys ns aim) ws aim part best (Look.Open o)
-    opened = subst (λ (r : Look). Seen (Refutes n ys ns aim) ws aim part best r) e s
-
-    pub descend-within : Exploring n ys ns ws aim (record { chosen = part .chosen; limit = o .limit; key = part .key })
-    descend-within =
-        record {
-          sought = x .sought;
-          nested = opened .said .0 .nested;
-          known = within-trans (o .limit) (part .limit) (union (aim .on) (aim .off)) (opened .said .0 .smaller) (x .known);
-          keyed = x .keyed;
-        }
-
-    pub descend-less : {t : ℕ} → 3 * (part .limit - part .chosen) + 1 ≡ t → 3 * (o .limit - part .chosen) < t
-    descend-less q = omega (arith, within-le _ _ (opened .said .0 .smaller))
-
-    pub descend-hit : {w : ℕ} → w ≡ o .witness → (w ≡ 0 → ⊥) → Hit (Refutes n ys ns aim) (part .chosen) (o .limit) w
-    descend-hit d ne = rw d (opened .said .1 .hits (λ z. ne (d ∙ z)))
-
-    -- what holds within the limit
-    pub descend-narrowed : {us : List ℕ} {r : State} {key : ℕ} → Explored n ys ns ws aim (record { chosen = part .chosen; limit = o .limit; key = key }) best us r
-        → Explored n ys ns ws aim part best us r
-    descend-narrowed h = record { cheapest = narrowed (opened .said .0) (h .cheapest); pooled = h .pooled }
-
-    -- `chosen` is a candidate
-    pub descend-found : {ms : List ℕ} {state r : State} {a : SearchResult} → Pooled n ys ns ms (state .used)
-        → Searched n ys ns (aimOn aim (part .chosen)) (aimOff aim (part .chosen)) a → a ≡ Nothing → Improved state (part .key) r
-        → Explored n ys ns ws aim part best ms r
-    descend-found p a d i =
-        record {
-          cheapest = rw (i .is-key, x .keyed) (hit (key-rises ws aim) (x .nested) (searched-none a d) (omega (arith, opened .said .2, x .keyed)));
-          pooled = rw (i .same-used) p;
-        }
-
-    -- what the model makes false is a witness
-    pub descend-witness : {f d : ℕ} {a : SearchResult} → Searched n ys ns (aimOn aim (part .chosen)) (aimOff aim (part .chosen)) a → a ≡ Found f
-        → d ≡ deniedBy (aim .on) (aim .off) f → Hit (Refutes n ys ns aim) (part .chosen) (o .limit) d
-    descend-witness {f} a m q = rw q (model-hit n ys ns aim (part .chosen) (o .limit) f (descend-within .known) (searched-model a m))
-
-  pub descend-more : {ms us os : List ℕ} {state more r : State} {f : ℕ} → Stored ms state f us more → Explored n ys ns ws aim part (more .best) os r
-      → Explored n ys ns ws aim part (state .best) os r
-  descend-more t e = rw (t .same-best) at e
-
-pub descend-stored : {n : ℕ} {ys ns ms us : List ℕ} {state r : State} {on off f : ℕ} {a : SearchResult} → Pooled n ys ns ms (state .used) → Searched n ys ns on off a
-    → a ≡ Found f → Stored ms state f us r → Pooled n ys ns us (r .used)
-descend-stored p s e t = pool-kept p (found-obeys s e) (t .kept)
-
-pub ruleset descend-laws = (explore-aimed, explore-room, descend-dead, descend-within, descend-less, descend-hit, descend-narrowed, descend-found, descend-witness, descend-stored, descend-more)
-
--- ---- `branch`
-
--- Item v is one that the part may still choose.
-pub record Open (ws : List ℕ) (part : Part) (v : ℕ) : Type 0 where
-  pub small : v < width
-  pub weighed : v < length ws
-  pub row : v < maxChoices
-  pub limited : bit (part .limit) v ≡ 1
-  pub unused : bit (part .chosen) v ≡ 0
-
-module _ {n : ℕ} {ys ns ws : List ℕ} {aim : Aim} {part : Part} (x : Exploring n ys ns ws aim part) where
-  pub branch-none : {ms : List ℕ} {state : State} {left w : ℕ} → Pooled n ys ns ms (state .used) → Hit (Refutes n ys ns aim) (part .chosen) (part .limit) w
-      → left ≡ inter w (part .limit) → left ≡ 0 → Explored n ys ns ws aim part (state .best) ms state
-  branch-none p h e z = record { cheapest = no-member h (sym e ∙ z); pooled = p }
-
-  pub branch-rows : {left : ℕ} (w : ℕ) → left ≡ inter w (part .limit) → Rows ws left
-  branch-rows w e = record { rows = rw (x .sought .rows, e) (omega (arith, and-le-r w (part .limit), limit-small x)) }
-
-  pub branch-item : {left w v : ℕ} → Hit (Refutes n ys ns aim) (part .chosen) (part .limit) w → left ≡ inter w (part .limit) → Item left v → Open ws part v
-  branch-item {left} {w} {v} h e i =
-      let d : bit (inter w (part .limit)) v ≡ 1 = sym (ap (λ (m : ℕ). bit m v) e) ∙ i .member in
-      let l : bit (part .limit) v ≡ 1 = omega (arith, bit-inter w (part .limit) v, bit-le w v, bit-le (part .limit) v) in
-      let r : v < maxChoices = member-lt maxChoices (part .limit) v l (limit-small x) in
+  pub look-first : {ms : List ℕ} {state here : State} {r : Look} → Pooled n ys ns ms (state .used)
+      → Seen (Meeting aim ms (state .used)) ws aim part (state .best) r → Counted state here
+      → LookedFrom n ys ns ws aim part (state .best) ms (record { look = r; state = here })
+  look-first {r = r} p s c =
       record {
-        small = i .small;
-        weighed = omega (arith, r, x .sought .rows);
-        row = r;
-        limited = l;
-        unused = omega (arith, bit-inter w (part .limit) v, bit-le w v, h .apart .avoids v);
+        looked = record { seen = rw (c .same-best) (rules-see p r s); pooled = rw (c .same-used) p };
+        same-best = c .same-best;
       }
 
-  module _ {v : ℕ} (o : Open ws part v) where
-    more : Within (insert (part .chosen) v) (part .limit)
-    more = within-insert (part .chosen) v (part .limit) (x .nested) (o .limited)
+  pub look-second : {ms : List ℕ} {state here filled : State} {r : Look} → Counted state here → Refilled n ys ns (here .best) ms filled
+      → Seen (Meeting aim ms (filled .used)) ws aim part (filled .best) r
+      → LookedFrom n ys ns ws aim part (state .best) ms (record { look = r; state = filled })
+  look-second {r = r} c f s =
+      record { looked = record { seen = rules-see (f .pooled) r s; pooled = f .pooled }; same-best = f .same-best ∙ c .same-best }
 
-    -- the key has room
-    pub branch-fits : part .key + weightIn ws v < 2 ^ width
-    branch-fits =
-        omega (
-          arith,
-          x .keyed,
-          total-insert (weightIn ws) maxChoices (part .chosen) v (o .row) (o .unused),
-          total-le (weightIn ws) maxChoices (insert (part .chosen) v) (part .limit) more,
-          explore-parted x .cheap,
-        )
+module _ {n : ℕ} {ys ns ms : List ℕ} where
+  pub pool-room : {used : ℕ} → Pooled n ys ns ms used → used ≤ length ms
+  pool-room p = p .room
 
-    -- the sets with v
-    pub branch-with : {s k : ℕ} → s ≡ insert (part .chosen) v → k ≡ part .key + weightIn ws v
-        → Exploring n ys ns ws aim (record { chosen = s; limit = part .limit; key = k })
-    branch-with {s} {k} e d =
+  pub pool-counted : {state here : State} → Pooled n ys ns ms (state .used) → Counted state here → Pooled n ys ns ms (here .used)
+  pool-counted p c = rw (c .same-used) p
+
+  pub pool-refilled : {best : ℕ} {filled : State} → Refilled n ys ns best ms filled → filled .used ≤ length ms
+  pool-refilled f = f .pooled .room
+
+pub ruleset looking-laws = (explore-aimed, explore-parted, look-first, look-second, pool-room, pool-counted, pool-refilled)
+
+-- ---- `split_at`
+
+module _ {limit w left : ℕ} {state : State} (e : left ≡ inter w limit) where
+  pub split-none : left ≡ 0 → SplitAt limit w state (Split.Done state)
+  split-none z = record { said = (refl, sym e ∙ z) }
+
+  pub split-item : {item : ℕ} → Item left item → SplitAt limit w state (Split.At limit item state)
+  split-item i = record { said = (refl, refl, rw e at i) }
+
+pub split-rows : {ws : List ℕ} {limit left : ℕ} (w : ℕ) → Rows ws limit → left ≡ inter w limit → Rows ws left
+split-rows {limit = limit} w r e = record { rows = rw e (omega (arith, and-le-r w limit, r .rows)) }
+
+pub ruleset split-at-laws = (split-none, split-item, split-rows)
+
+-- ---- `split_part`
+
+module _ {n : ℕ} {ys ns ws : List ℕ} {aim : Aim} {part : Part} {ms : List ℕ} {looking : Looking} (l : LookedAt n ys ns ws aim part ms looking) where
+  pub split-dead : {seen : Look} → seen ≡ looking .look → seen ≡ Look.Dead
+      → SplitUp n ys ns ws aim part (looking .state .best) ms (Split.Done (looking .state))
+  split-dead d e =
+      record {
+        said = record {
+          cheapest = subst (λ (r : Look). Seen (Refutes n ys ns aim) ws aim part (looking .state .best) r) (sym d ∙ e) (l .seen) .said;
+          pooled = l .pooled;
+        };
+      }
+
+  pub split-room : looking .state .used ≤ length ms
+  split-room = l .pooled .room
+
+  module _ (x : Exploring n ys ns ws aim part) {seen : Look} {o : OpenPart} (d : seen ≡ looking .look) (e : seen ≡ Look.Open o) where
+    opened : Seen (Refutes n ys ns aim) ws aim part (looking .state .best) (Look.Open o)
+    opened = subst (λ (r : Look). Seen (Refutes n ys ns aim) ws aim part (looking .state .best) r) (sym d ∙ e) (l .seen)
+
+    pub split-limit : Rows ws (o .limit)
+    split-limit =
+        record { rows = rw (x .sought .rows) (omega (arith, within-le (o .limit) (part .limit) (opened .said .0 .smaller), limit-small x)) }
+
+    -- by a witness: no candidate, or an item
+    splits : {us : List ℕ} {w : ℕ} {state : State} (r : Split) → state .best ≡ looking .state .best → Pooled n ys ns us (state .used)
+        → Hit (Refutes n ys ns aim) (part .chosen) (o .limit) w → SplitAt (o .limit) w state r
+        → SplitUp n ys ns ws aim part (looking .state .best) us r
+    splits {us} {w} {state} (Split.Done r) b p h s =
         record {
-          sought = x .sought;
-          nested = rw e more;
-          known = x .known;
-          keyed = rw (d, e) (omega (arith, x .keyed, total-insert (weightIn ws) maxChoices (part .chosen) v (o .row) (o .unused)));
+          said = record {
+            cheapest = rw (← b) (rw (s .said .0) (narrowed (rw b (opened .said .0)) (no-member h (s .said .1))));
+            pooled = rw (s .said .0) p;
+          };
+        }
+    splits {us} {w} {state} (Split.At limit item r) b p h s =
+        record {
+          said = rw (s .said .0, s .said .1)
+              (record {
+                same-best = b;
+                pooled = p;
+                narrow = opened .said .0;
+                small = s .said .2 .small;
+                limited = omega (arith, s .said .2 .member, bit-inter w (o .limit) item, bit-le w item, bit-le (o .limit) item);
+                unused = omega (
+                  arith,
+                  s .said .2 .member,
+                  bit-inter w (o .limit) item,
+                  bit-le w item,
+                  bit-le (o .limit) item,
+                  h .apart .avoids item,
+                );
+              });
         }
 
-    pub branch-with-less : {s t : ℕ} → s ≡ insert (part .chosen) v → 3 * (part .limit - part .chosen) ≡ t → 3 * (part .limit - s) + 2 < t
-    branch-with-less {s} e q = omega (arith, e, insert-more (part .chosen) v (o .unused), within-le _ _ more)
+    pub split-open : {w : ℕ} {r : Split} → w ≡ o .witness → (w ≡ 0 → ⊥) → SplitAt (o .limit) w (looking .state) r
+        → SplitUp n ys ns ws aim part (looking .state .best) ms r
+    split-open {r = r} q ne s = splits r refl (l .pooled) (rw q (opened .said .1 .hits (λ z. ne (q ∙ z)))) s
 
-    -- the sets without v
-    pub branch-without : {m : ℕ} → m ≡ remove (part .limit) v
-        → Exploring n ys ns ws aim (record { chosen = part .chosen; limit = m; key = part .key })
-    branch-without {m} e =
+    -- `chosen` is a candidate
+    pub split-found : {r : State} {a : SearchResult} → Searched n ys ns (aimOn aim (part .chosen)) (aimOff aim (part .chosen)) a → a ≡ Nothing
+        → Improved (looking .state) (part .key) r → SplitUp n ys ns ws aim part (looking .state .best) ms (Split.Done r)
+    split-found a z i =
         record {
-          sought = x .sought;
-          nested = rw e (within-remove (part .chosen) (part .limit) v (x .nested) (o .unused));
-          known = rw e (within-trans (remove (part .limit) v) (part .limit) (union (aim .on) (aim .off)) (remove-within (part .limit) v) (x .known));
-          keyed = x .keyed;
+          said = record {
+            cheapest = rw (i .is-key, x .keyed) (hit (key-rises ws aim) (x .nested) (searched-none a z) (omega (arith, opened .said .2, x .keyed)));
+            pooled = rw (i .same-used) (l .pooled);
+          };
         }
 
-    pub branch-without-less : {m t : ℕ} → m ≡ remove (part .limit) v → 3 * (part .limit - part .chosen) ≡ t → 3 * (m - part .chosen) + 2 < t
-    branch-without-less {m} e q =
-        omega (
-          arith,
-          e,
-          remove-less (part .limit) v (o .limited),
-          within-le _ _ (within-remove (part .chosen) (part .limit) v (x .nested) (o .unused)),
-        )
+    -- the model is one more for the pool, and what it makes false a witness
+    pub split-model : {us : List ℕ} {more : State} {f w : ℕ} {a : SearchResult} {r : Split}
+        → Searched n ys ns (aimOn aim (part .chosen)) (aimOff aim (part .chosen)) a → a ≡ Found f → Stored ms (looking .state) f us more
+        → w ≡ deniedBy (aim .on) (aim .off) f → SplitAt (o .limit) w more r → SplitUp n ys ns ws aim part (looking .state .best) us r
+    split-model {f = f} {r = r} a m t q s =
+        splits r (t .same-best) (pool-kept (l .pooled) (found-obeys a m) (t .kept))
+        (rw q (model-hit n ys ns aim (part .chosen) (o .limit) f (within-trans (o .limit) (part .limit) (union (aim .on) (aim .off)) (opened .said .0 .smaller) (x .known)) (searched-model a m)))
+        s
 
-    -- both
-    pub branch-both : {s m k l best : ℕ} {ms us : List ℕ} {found r : State} → s ≡ insert (part .chosen) v → m ≡ remove (part .limit) v
-        → Explored n ys ns ws aim (record { chosen = s; limit = part .limit; key = k }) best ms found
-        → Explored n ys ns ws aim (record { chosen = part .chosen; limit = m; key = l }) (found .best) us r → Explored n ys ns ws aim part best us r
-    branch-both {best = best} {found = found} {r} e d p q =
-        record {
-          cheapest = branch-on v (x .nested) (o .unused) (o .limited)
-              (subst (λ (z : ℕ). Least (InInterval (Refutes n ys ns aim) z (part .limit)) (keyAt ws aim) best (found .best)) e (p .cheapest))
-              (subst (λ (z : ℕ). Least (InInterval (Refutes n ys ns aim) (part .chosen) z) (keyAt ws aim) (found .best) (r .best)) d (q .cheapest));
-          pooled = q .pooled;
-        }
+pub ruleset split-laws = (explore-aimed, split-dead, split-room, split-limit, split-open, split-found, split-model)
 
-pub branch-pooled : {n : ℕ} {ys ns ws : List ℕ} {aim : Aim} {part : Part} {best : ℕ} {ms : List ℕ} {found : State} → Explored n ys ns ws aim part best ms found
-    → Pooled n ys ns ms (found .used)
-branch-pooled e = e .pooled
+-- ---- `explore`
 
-pub ruleset branch-laws = (branch-none, branch-rows, branch-item, branch-fits, branch-with, branch-with-less, branch-without, branch-without-less, branch-both, branch-pooled)
+module _ {n : ℕ} {ys ns ws : List ℕ} {aim : Aim} {part : Part} where
+  pub remaining-start : {ms : List ℕ} {state : State} → Exploring n ys ns ws aim part → Pooled n ys ns ms (state .used)
+      → Remaining n ys ns ws aim part (state .best) ms part state
+  remaining-start x p = record { exploring = x; same-chosen = refl; smaller = omega arith; pooled = p; finish = λ r l. l }
+
+  module _ {best : ℕ} {ms : List ℕ} {rest : Part} {state : State} (m : Remaining n ys ns ws aim part best ms rest state) where
+    pub remaining-exploring : Exploring n ys ns ws aim rest
+    remaining-exploring = m .exploring
+
+    pub remaining-pooled : Pooled n ys ns ms (state .used)
+    remaining-pooled = m .pooled
+
+    module _ {os : List ℕ} {seen : Looking} (l : LookedFrom n ys ns ws aim rest (state .best) os seen) where
+      pub remaining-looked : LookedAt n ys ns ws aim rest os seen
+      remaining-looked = l .looked
+
+      pub remaining-done : {us : List ℕ} {r : Split} {last : State} → SplitUp n ys ns ws aim rest (seen .state .best) us r → r ≡ Split.Done last
+          → Explored n ys ns ws aim part best us last
+      remaining-done {us} s e =
+          let d = subst (SplitUp n ys ns ws aim rest (seen .state .best) us) e s .said in
+          record { cheapest = m .finish _ (rw (l .same-best) at (d .cheapest)); pooled = d .pooled }
+
+      module _ {us : List ℕ} {r : Split} {limit item : ℕ} {next : State} (s : SplitUp n ys ns ws aim rest (seen .state .best) us r)
+          (e : r ≡ Split.At limit item next) where
+        on : SplitsOn n ys ns ws aim rest (seen .state .best) us limit item next
+        on = subst (SplitUp n ys ns ws aim rest (seen .state .best) us) e s .said
+
+        row : item < maxChoices
+        row = member-lt maxChoices limit item (on .limited) (omega (arith, within-le limit (rest .limit) (on .narrow .smaller), limit-small (m .exploring)))
+
+        more : Within (insert (rest .chosen) item) limit
+        more = within-insert (rest .chosen) item limit (on .narrow .nested) (on .limited)
+
+        known : Within limit (union (aim .on) (aim .off))
+        known = within-trans limit (rest .limit) (union (aim .on) (aim .off)) (on .narrow .smaller) (m .exploring .known)
+
+        pub split-small : item < width
+        split-small = on .small
+
+        pub split-pooled : Pooled n ys ns us (next .used)
+        split-pooled = on .pooled
+
+        -- the key has room
+        pub split-fits : ItemFits ws rest item
+        split-fits =
+            record {
+              row = row;
+              fits = omega (
+                arith,
+                m .exploring .keyed,
+                total-insert (weightIn ws) maxChoices (rest .chosen) item row (on .unused),
+                total-le (weightIn ws) maxChoices (insert (rest .chosen) item) (union (aim .on) (aim .off))
+                    (within-trans (insert (rest .chosen) item) limit (union (aim .on) (aim .off)) more known),
+                m .exploring .sought .cheap,
+              );
+            }
+
+        -- the sets with the item
+        pub split-with : {with : Part} → with ≡ withItem ws rest limit item → Exploring n ys ns ws aim with
+        split-with q =
+            rw q
+            (record {
+              sought = m .exploring .sought;
+              nested = more;
+              known = known;
+              keyed = omega (arith, m .exploring .keyed, total-insert (weightIn ws) maxChoices (rest .chosen) item row (on .unused));
+            })
+
+        pub split-with-less : {with : Part} {t : ℕ} → with ≡ withItem ws rest limit item → part .limit - part .chosen ≡ t → with .limit - with .chosen < t
+        split-with-less q z =
+            rw q
+            (omega (
+              arith,
+              m .same-chosen,
+              m .smaller,
+              within-le limit (rest .limit) (on .narrow .smaller),
+              within-le _ _ more,
+              insert-more (rest .chosen) item (on .unused),
+            ))
+
+        -- the sets without it are left
+        pub split-without : {with : Part} {found : State} {vs : List ℕ} {k : ℕ} → with ≡ withItem ws rest limit item
+            → Explored n ys ns ws aim with (next .best) vs found → k ≡ remove limit item
+            → Remaining n ys ns ws aim part best vs (record { chosen = rest .chosen; limit = k; key = rest .key }) found
+        split-without {with} {found} {vs} q x z =
+            rw z
+            (record {
+              exploring = record {
+                sought = m .exploring .sought;
+                nested = within-remove (rest .chosen) limit item (on .narrow .nested) (on .unused);
+                known = within-trans (remove limit item) limit (union (aim .on) (aim .off)) (remove-within limit item) known;
+                keyed = m .exploring .keyed;
+              };
+              same-chosen = m .same-chosen;
+              smaller = omega (
+                arith,
+                m .smaller,
+                within-le limit (rest .limit) (on .narrow .smaller),
+                within-le (remove limit item) limit (remove-within limit item),
+              );
+              pooled = x .pooled;
+              finish = λ r y. m .finish r (narrowed narrow (branch-on item (on .narrow .nested) (on .unused) (on .limited) inside y));
+            })
+          where
+            same : next .best ≡ state .best
+            same = on .same-best ∙ l .same-best
+
+            narrow : Narrowed (Refutes n ys ns aim) (keyAt ws aim) (rest .chosen) (rest .limit) (state .best) limit
+            narrow = rw (l .same-best) at (on .narrow)
+
+            inside : Least (InInterval (Refutes n ys ns aim) (insert (rest .chosen) item) limit) (keyAt ws aim) (state .best) (found .best)
+            inside = rw (q, same) at (x .cheapest)
+
+        pub split-less : {k : ℕ} → k ≡ remove limit item → k < rest .limit
+        split-less z = omega (arith, z, remove-less limit item (on .limited), within-le limit (rest .limit) (on .narrow .smaller))
+
+pub ruleset explore-laws = (remaining-start, remaining-exploring, remaining-pooled, remaining-looked, remaining-done, split-small, split-pooled, split-fits, split-with, split-with-less, split-without, split-less)
