@@ -8,9 +8,9 @@ use native.Mathlib.Decide.{ℕ-discrete, decLt}
 use native.Mathlib.Omega.{arith}
 use Rattle.sets.specs.Sets.{bit, union, diff, Within, Apart}
 use Rattle.sets.specs.Laws.Bits.{bit-le, bit-union, bit-diff, member-lt}
-use Rattle.sets.specs.Laws.Subset.{within-refl, within-trans, in-union}
+use Rattle.sets.specs.Laws.Subset.{within-refl, in-union}
 use Rattle.items.specs.Weights.{total}
-use Rattle.items.specs.Cheapest.{Least, InInterval}
+use Rattle.items.specs.Cheapest.{Least, InInterval, interval-below, interval-weaker}
 use Rattle.items.specs.Laws.Sums.{sum-drop, total-rest, total-member}
 
 -- The key of a set of n items is a sum: a base and the weights of its items.
@@ -112,9 +112,6 @@ pub narrowed : {Con : ℕ → Type 0} {key : ℕ → ℕ} {s top limit b r : ℕ
     → Least (InInterval Con s top) key b r
 narrowed {Con} {key} {s} {top} {limit} {b} {r} x l = record { low = l .low; least = least; from = from (l .from) }
   where
-    wider : (t : ℕ) → InInterval Con s limit t → InInterval Con s top t
-    wider t p = record { above = p .above; below = within-trans t limit top (p .below) (x .smaller); holds = p .holds }
-
     least : (t : ℕ) → InInterval Con s top t → r ≤ key t
     least t p =
         by-cases (decLt (key t) b) (λ k. l .least t (record { above = p .above; below = x .below-best t p k; holds = p .holds }))
@@ -122,15 +119,12 @@ narrowed {Con} {key} {s} {top} {limit} {b} {r} x l = record { low = l .low; leas
 
     from : (r ≡ b) ⊎ ((t : ℕ) × InInterval Con s limit t × (r ≡ key t)) → (r ≡ b) ⊎ ((t : ℕ) × InInterval Con s top t × (r ≡ key t))
     from (inl e) = inl e
-    from (inr w) = inr (w .0, wider (w .0) (w .1), w .2)
+    from (inr w) = inr (w .0, interval-below (x .smaller) (w .1), w .2)
 
 -- the same of a stronger test
 module _ {Con Other : ℕ → Type 0} {s top : ℕ} (implies : (t : ℕ) → Within t top → Other t → Con t) where
-  also : (t : ℕ) → InInterval Other s top t → InInterval Con s top t
-  also t p = record { above = p .above; below = p .below; holds = implies t (p .below) (p .holds) }
-
   pub dead-stronger : {key : ℕ → ℕ} {best : ℕ} → Least (InInterval Con s top) key best best → Least (InInterval Other s top) key best best
-  dead-stronger l = record { low = l .low; least = λ t p. l .least t (also t p); from = inl refl }
+  dead-stronger l = record { low = l .low; least = λ t p. l .least t (interval-weaker implies p); from = inl refl }
 
   pub narrowed-stronger : {key : ℕ → ℕ} {best limit : ℕ} → Narrowed Con key s top best limit → Narrowed Other key s top best limit
-  narrowed-stronger x = record { nested = x .nested; smaller = x .smaller; below-best = λ t p. x .below-best t (also t p) }
+  narrowed-stronger x = record { nested = x .nested; smaller = x .smaller; below-best = λ t p. x .below-best t (interval-weaker implies p) }

@@ -6,7 +6,7 @@ use Prim.Native.Nat.{ℕ, _≤_, _<_}
 use native.Mathlib.Decide.{ℕ-discrete}
 use native.Mathlib.Omega.{arith}
 use Rattle.sets.specs.Sets.{bit, inter, insert, remove, Within, Apart}
-use Rattle.sets.specs.Laws.Bits.{bit-le, bit-zero, bit-inter, bit-insert-same, bit-remove-same, bit-remove-other}
+use Rattle.sets.specs.Laws.Bits.{bit-le, bit-none, bit-inter, bit-insert-same, bit-remove-same, bit-remove-other}
 use Rattle.sets.specs.Laws.Subset.{within-refl, within-trans, within-le, within-insert, in-insert}
 
 -- ---- the least key
@@ -16,14 +16,6 @@ pub record Least {A : Type 0} (P : A → Type 0) (key : A → ℕ) (b r : ℕ) :
   pub low : r ≤ b
   pub least : (t : A) → P t → r ≤ key t
   pub from : (r ≡ b) ⊎ ((t : A) × P t × (r ≡ key t))
-
--- there is one such number
-pub least-unique : {A : Type 0} {P : A → Type 0} {key : A → ℕ} {b r s : ℕ} → Least P key b r → Least P key b s → r ≡ s
-least-unique {A} {P} {key} {b} {r} {s} x y = omega (arith, under x y (y .from), under y x (x .from))
-  where
-    under : {u v : ℕ} → Least P key b u → Least P key b v → (v ≡ b) ⊎ ((t : A) × P t × (v ≡ key t)) → u ≤ v
-    under g h (inl e) = omega (arith, g .low)
-    under g h (inr w) = omega (arith, g .least (w .0) (w .1), w .2)
 
 -- r is the least of the keys of what has P.
 pub record Minimum {A : Type 0} (P : A → Type 0) (key : A → ℕ) (r : ℕ) : Type 0 where
@@ -105,6 +97,18 @@ pub record InInterval (Con : ℕ → Type 0) (s top t : ℕ) : Type 0 where
   pub below : Within t top
   pub holds : Con t
 
+module _ {Con : ℕ → Type 0} {s t : ℕ} where
+  -- the same with a larger limit, and with fewer elements to hold
+  pub interval-below : {limit top : ℕ} → Within limit top → InInterval Con s limit t → InInterval Con s top t
+  interval-below {limit} {top} w p = record { above = p .above; below = within-trans t limit top (p .below) w; holds = p .holds }
+
+  pub interval-above : {more top : ℕ} → Within s more → InInterval Con more top t → InInterval Con s top t
+  interval-above {more} w p = record { above = within-trans s more t w (p .above); below = p .below; holds = p .holds }
+
+  -- and of a weaker test
+  pub interval-weaker : {Other : ℕ → Type 0} {top : ℕ} → ((t : ℕ) → Within t top → Other t → Con t) → InInterval Other s top t → InInterval Con s top t
+  interval-weaker implies p = record { above = p .above; below = p .below; holds = implies t (p .below) (p .holds) }
+
 -- The key does not fall from a set to a superset.
 pub record Monotone (key : ℕ → ℕ) : Type 0 where
   pub rises : (s t : ℕ) → Within s t → key s ≤ key t
@@ -129,12 +133,12 @@ module _ {Con : ℕ → Type 0} {key : ℕ → ℕ} {s top : ℕ} where
   no-member {b} {w} h z = least-none (λ t p. clash t p (h .meets t p))
     where
       clash : (t : ℕ) → InInterval Con s top t → (v : ℕ) × (bit w v ≡ 1) × (bit t v ≡ 1) → ⊥
-      clash t p (v, a, c) = omega (arith, bit-inter w top v, ap (λ (x : ℕ). bit x v) z, bit-zero v, p .below .keeps v, bit-le top v)
+      clash t p (v, a, c) = omega (arith, bit-inter w top v, bit-none (inter w top) v z, p .below .keeps v, bit-le top v)
 
   -- a member v of the witness within top: the sets with v, and then those without it
   pub branch-on : (v : ℕ) {b m r : ℕ} → Within s top → bit s v ≡ 0 → bit top v ≡ 1 → Least (InInterval Con (insert s v) top) key b m
       → Least (InInterval Con s (remove top v)) key m r → Least (InInterval Con s top) key b r
-  branch-on v w i o x y = least-both split left right x y
+  branch-on v w i o x y = least-both split (λ t. interval-above (in-insert s v)) (λ t. interval-below (remove-within top v)) x y
     where
       split : (t : ℕ) → InInterval Con s top t → InInterval Con (insert s v) top t ⊎ InInterval Con s (remove top v) t
       split t p =
@@ -142,18 +146,9 @@ module _ {Con : ℕ → Type 0} {key : ℕ → ℕ} {s top : ℕ} where
           (λ e. inl (record { above = within-insert s v t (p .above) e; below = p .below; holds = p .holds }))
           (λ d. inr (record { above = p .above; below = within-remove t top v (p .below) (omega (arith, bit-le t v)); holds = p .holds }))
 
-      left : (t : ℕ) → InInterval Con (insert s v) top t → InInterval Con s top t
-      left t p = record { above = within-trans s (insert s v) t (in-insert s v) (p .above); below = p .below; holds = p .holds }
-
-      right : (t : ℕ) → InInterval Con s (remove top v) t → InInterval Con s top t
-      right t p = record { above = p .above; below = within-trans t (remove top v) top (p .below) (remove-within top v); holds = p .holds }
-
 -- a witness serves for a smaller limit
 pub hit-narrow : {Con : ℕ → Type 0} {s top limit w : ℕ} → Hit Con s top w → Within limit top → Hit Con s limit w
-hit-narrow {Con} {s} {top} {limit} h i = record { apart = h .apart; meets = λ t p. h .meets t (wider t p) }
-  where
-    wider : (t : ℕ) → InInterval Con s limit t → InInterval Con s top t
-    wider t p = record { above = p .above; below = within-trans t limit top (p .below) i; holds = p .holds }
+hit-narrow h i = record { apart = h .apart; meets = λ t p. h .meets t (interval-below i p) }
 
 -- and for the items within the limit alone
 pub hit-within : {Con : ℕ → Type 0} {s top w : ℕ} → Hit Con s top w → Hit Con s top (inter w top)
@@ -168,11 +163,7 @@ hit-within {Con} {s} {top} {w} h =
 
 -- a witness serves for a stronger test
 pub hit-stronger : {Con Other : ℕ → Type 0} {s top w : ℕ} → ((t : ℕ) → Within t top → Other t → Con t) → Hit Con s top w → Hit Other s top w
-hit-stronger implies h =
-    record {
-      apart = h .apart;
-      meets = λ t p. h .meets t (record { above = p .above; below = p .below; holds = implies t (p .below) (p .holds) });
-    }
+hit-stronger implies h = record { apart = h .apart; meets = λ t p. h .meets t (interval-weaker implies p) }
 
 -- Where the set w is not empty, it is a witness.
 pub record Witnessed (Con : ℕ → Type 0) (s top w : ℕ) : Type 0 where

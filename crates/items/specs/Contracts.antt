@@ -36,3 +36,8 @@ pub record Lighter (ws : List ℕ) (s than r : ℕ) : Type 0 where
 pub record Item (s v : ℕ) : Type 0 where
   pub small : v < width
   pub member : bit s v ≡ 1
+
+-- v is an item of the set, and none of the set weighs less.
+pub record CheapestItem (ws : List ℕ) (s v : ℕ) : Type 0 where
+  pub item : Item s v
+  pub at-most : AtMostEach ws s (weightIn ws v)

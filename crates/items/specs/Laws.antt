@@ -1,3 +1,3 @@
--- The laws of items, by topic: sums and weights, the functions over weights, the pool. Assumes nothing.
+-- The laws of items, by topic: sums and weights, the functions over weights. Assumes nothing.
 pub mod Sums
 pub mod Weighing

@@ -2,25 +2,35 @@
 // does with weights, whatever the items are.
 ghost use mathlib.Core.Path.{_≡_};
 ghost use Prim.Native.Nat.{_≤_, _<_};
-ghost use Rattle.items.specs.Contracts.{Rows, AtMostEach, Enough, TakenOff, Lighter, Item};
+ghost use Rattle.items.specs.Contracts.{Rows, AtMostEach, Enough, TakenOff, Lighter, CheapestItem};
+
+// An item of a set that is not empty: the first of least weight.
+pub fn cheapest_item(weights: &[u64], set: u64) -> u32
+    requires { ⌜ Rows (now weights) set ⌝ }
+    requires { ⌜ 0 < set ⌝ }
+    ensures { λ r. ⌜ CheapestItem (now (weights .entry)) set r ⌝ }
+{
+    let mut item = sets::lowest(set);
+    let mut rest = set;
+    while rest != 0 {
+        let v = sets::lowest(rest);
+        if weights[v as usize] < weights[item as usize] {
+            item = v;
+        }
+        rest = sets::remove(rest, v);
+    }
+    item
+}
 
 // A number that no weight of the items of a set is below. It is the least of them.
 pub fn least_weight(weights: &[u64], set: u64) -> u64
     requires { ⌜ Rows (now weights) set ⌝ }
     ensures { λ r. ⌜ AtMostEach (now (weights .entry)) set r ⌝ }
 {
-    let mut least = !0u64;
-    let mut rest = set;
-    while rest != 0 {
-        let v = sets::lowest(rest);
-        let at = v as usize;
-        let weight = weights[at];
-        if weight < least {
-            least = weight;
-        }
-        rest = sets::remove(rest, v);
+    if set == 0 {
+        return !0u64;
     }
-    least
+    weights[cheapest_item(weights, set) as usize]
 }
 
 // Takes an amount off the weight of each item of a set, and answers those that then weigh nothing.
@@ -78,26 +88,4 @@ pub fn lighter(weights: &[u64], set: u64, than: u64) -> u64
         rest = sets::remove(rest, v);
     }
     kept
-}
-
-// An item of a set that is not empty: one of least weight.
-pub fn cheapest_item(weights: &[u64], set: u64) -> u32
-    requires { ⌜ Rows (now weights) set ⌝ }
-    requires { ⌜ 0 < set ⌝ }
-    ensures { λ r. ⌜ Item set r ⌝ }
-{
-    let mut item = sets::lowest(set);
-    let mut least = !0u64;
-    let mut rest = set;
-    while rest != 0 {
-        let v = sets::lowest(rest);
-        let at = v as usize;
-        let weight = weights[at];
-        if weight < least {
-            least = weight;
-            item = v;
-        }
-        rest = sets::remove(rest, v);
-    }
-    item
 }

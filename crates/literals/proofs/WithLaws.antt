@@ -1,7 +1,7 @@
--- A set of literals grows by one literal: the arm of a yes, and the arm of a no.
+-- A set of literals grows by one literal, whose sign says in which mask.
 -- Assumes nothing.
 use mathlib.Core.Path.{_≡_, sym}
-use mathlib.Core.Bool.{true, false, false≢true}
+use mathlib.Core.Bool.{Bool, true, false, false≢true}
 use Prim.Native.Nat.{ℕ, zero, suc, _-_, _<_}
 use native.Mathlib.Omega.{arith}
 use borrow.Author.Tests.{ltb-false}
@@ -17,22 +17,26 @@ use Rattle.literals.specs.Truth.{yesBit, noBit}
 use Rattle.literals.specs.WithLiteral.{WithLiteral}
 use Rattle.literals.specs.declared.LiteralSet.{LiteralSet}
 
-module _ (s : LiteralSet) (w r : ℕ) where
-  pub with-yes : (l : ℤ) → SFits w8 l → 0 < variable l → ltZ (pos 0) (toZ w8 (ofZ w8 l)) ≡ true → w ≡ variable l → r ≡ insert (s .yes) (w - 1)
-      → WithLiteral s l (record { yes = r; no = s .no })
-  unfolding variable yesBit noBit insert
-  with-yes l f n t e g = go l n (rw (toZ-ofZ f) at t) e
-    where
-      go : (l : ℤ) → 0 < variable l → ltZ (pos 0) l ≡ true → w ≡ variable l → WithLiteral s l (record { yes = r; no = s .no })
-      go (pos zero) n t e = absurd (omega arith)
-      go (pos (suc v)) n t e = let p : w - 1 ≡ v = omega arith in record { yes-with = rw p at g; no-with = sym (or-zero-r (s .no)) }
-      go (negsuc v) n t e = absurd (false≢true t)
+-- one of the two masks, and the set with that mask changed
+abbrev mask : LiteralSet → Bool → ℕ
+mask s true = s .yes
+mask s false = s .no
 
-  pub with-no : (l : ℤ) → SFits w8 l → 0 < variable l → ltZ (pos 0) (toZ w8 (ofZ w8 l)) ≡ false → w ≡ variable l → r ≡ insert (s .no) (w - 1)
-      → WithLiteral s l (record { yes = s .yes; no = r })
+abbrev changed : LiteralSet → Bool → ℕ → LiteralSet
+changed s true r = record { yes = r; no = s .no }
+changed s false r = record { yes = s .yes; no = r }
+
+module _ (s : LiteralSet) (w r : ℕ) where
+  with-sign : (positive : Bool) (l : ℤ) → 0 < variable l → ltZ (pos 0) l ≡ positive → w ≡ variable l → r ≡ insert (mask s positive) (w - 1)
+      → WithLiteral s l (changed s positive r)
   unfolding variable yesBit noBit insert
-  with-no l f n t e g = go l n (rw (toZ-ofZ f) at t) e
-    where
-      go : (l : ℤ) → 0 < variable l → ltZ (pos 0) l ≡ false → w ≡ variable l → WithLiteral s l (record { yes = s .yes; no = r })
-      go (pos v) n t e = absurd (omega (arith, ltb-false 0 v t))
-      go (negsuc v) n t e = let p : w - 1 ≡ v = omega arith in record { yes-with = sym (or-zero-r (s .yes)); no-with = rw p at g }
+  with-sign positive (pos zero) n t e g = absurd (omega arith)
+  with-sign true (pos (suc v)) n t e g = let p : w - 1 ≡ v = omega arith in record { yes-with = rw p at g; no-with = sym (or-zero-r (s .no)) }
+  with-sign true (negsuc v) n t e g = absurd (false≢true t)
+  with-sign false (pos (suc v)) n t e g = absurd (omega (arith, ltb-false 0 (suc v) t))
+  with-sign false (negsuc v) n t e g = let p : w - 1 ≡ v = omega arith in record { yes-with = sym (or-zero-r (s .yes)); no-with = rw p at g }
+
+  -- the literal as the code has it, by its bits
+  pub with-literal : (positive : Bool) (l : ℤ) → SFits w8 l → 0 < variable l → ltZ (pos 0) (toZ w8 (ofZ w8 l)) ≡ positive → w ≡ variable l
+      → r ≡ insert (mask s positive) (w - 1) → WithLiteral s l (changed s positive r)
+  with-literal positive l f n t e g = with-sign positive l n (rw (toZ-ofZ f) at t) e g

@@ -2,66 +2,68 @@
 -- Assumes nothing.
 use mathlib.Core.Path.{_≡_, refl, sym, ap, ap₂, _∙_}
 use mathlib.Core.Logic.{_⊎_, inl, inr}
-use mathlib.Core.Bool.{Bool, true, false, not, _&&_, _||_, false≢true}
+use mathlib.Core.Bool.{Bool, true, false, not, cond, _&&_, _||_, false≢true, and-true, and-comm, or-true, or-false, Bool·not-not}
 use mathlib.Core.List.{List, [], _∷_, _++_}
-use Prim.Native.Nat.{ℕ, zero, suc, _+_, _≤_, _<_}
+use Prim.Native.Nat.{ℕ, zero, suc, _<_}
 use native.Mathlib.Omega.{arith}
-use native.Mathlib.Decide.{ℕ-discrete}
+use borrow.Author.Tests.{eqb-true, eqb-false, ne-eqb}
+use lib.Dec.{eqb}
 use lib.Bits.{or-zero-r}
 use lib.IntN.{pos, negsuc}
-use Rattle.sets.specs.Sets.{bit, has, single, union, subset, disjoint, diff}
-use Rattle.sets.specs.Laws.Bits.{bit-le, bit-union, bit-single-same, bit-single-other, ext}
-use Rattle.sets.specs.Laws.Subset.{has-true, has-false, subset-within, within-subset, subset-false, disjoint-apart, apart-disjoint, disjoint-false}
+use Rattle.sets.specs.Sets.{bit, has, single, union, inter, diff, subset, disjoint}
+use Rattle.sets.specs.Laws.Bits.{bit-union, bit-inter, bit-diff, bit-single-same, pos-of-member, ext}
+use Rattle.sets.specs.Laws.Subset.{has-true, has-false, within-subset, subset-false, apart-disjoint, disjoint-false, union-none, single-within, single-apart}
 use Rattle.literals.specs.Literal.{Literal, variable}
 use Rattle.literals.specs.Truth.{holds, obeys, allHold, yesBit, noBit, yesMask, noMask, obeysMasks, allHoldMasks}
 
+-- ---- both of two tests
+
+pub and-both : (a b : Bool) → a && b ≡ true → (a ≡ true) × (b ≡ true)
+and-both true b e = (refl, e)
+and-both false b e = absurd (false≢true e)
+
 -- ---- one member decides
+
+-- a set with an element is not empty
+not-empty : (m v : ℕ) → bit m v ≡ 1 → eqb m 0 ≡ false
+not-empty m v e = ne-eqb m 0 (λ z. absurd (omega (arith, pos-of-member m v e)))
 
 -- a common element
 pub meets : (a f v : ℕ) → bit a v ≡ 1 → bit f v ≡ 1 → disjoint a f ≡ false
-meets a f v p q = go (disjoint a f) refl
-  where
-    go : (b : Bool) → disjoint a f ≡ b → disjoint a f ≡ false
-    go false e = e
-    go true e = absurd (omega (arith, disjoint-apart a f e .avoids v))
+unfolding disjoint
+meets a f v p q = not-empty (inter a f) v (omega (arith, bit-inter a f v))
 
 -- an element of the one that is not in the other
 pub leaves : (a f v : ℕ) → bit a v ≡ 1 → bit f v ≡ 0 → subset a f ≡ false
-leaves a f v p q = go (subset a f) refl
-  where
-    go : (b : Bool) → subset a f ≡ b → subset a f ≡ false
-    go false e = e
-    go true e = absurd (omega (arith, subset-within a f e .keeps v))
+unfolding subset
+leaves a f v p q = not-empty (diff a f) v (omega (arith, bit-diff a f v))
 
 -- ---- tests of a union
 
-pub disjoint-union : (a b f : ℕ) → disjoint (union a b) f ≡ disjoint a f && disjoint b f
-disjoint-union a b f = go (disjoint a f) (disjoint b f) refl refl
+-- a union is empty where both are
+empty-union : (x y : ℕ) → eqb (union x y) 0 ≡ eqb x 0 && eqb y 0
+empty-union x y = go (eqb x 0) (eqb y 0) refl refl
   where
-    go : (x y : Bool) → disjoint a f ≡ x → disjoint b f ≡ y → disjoint (union a b) f ≡ x && y
-    go true true p q =
-        apart-disjoint (union a b) f
-        (record { avoids = λ v. omega (arith, bit-union a b v, disjoint-apart a f p .avoids v, disjoint-apart b f q .avoids v) })
-    go true false p q =
-        let w = disjoint-false b f q in
-        meets (union a b) f (w .0) (omega (arith, bit-union a b (w .0), bit-le a (w .0), w .1)) (w .2)
-    go false y p q =
-        let w = disjoint-false a f p in
-        meets (union a b) f (w .0) (omega (arith, bit-union a b (w .0), bit-le b (w .0), w .1)) (w .2)
+    go : (a b : Bool) → eqb x 0 ≡ a → eqb y 0 ≡ b → eqb (union x y) 0 ≡ a && b
+    go true b p q = rw (eqb-true x 0 p) q
+    go false b p q = ne-eqb (union x y) 0 (λ e. eqb-false x 0 p (union-none x y e .0))
+
+-- what a set has in common with a union, and what is left of a union, comes of both
+inter-union : (a b f : ℕ) → inter (union a b) f ≡ union (inter a f) (inter b f)
+inter-union a b f =
+    ext _ _ (λ v. omega (arith, bit-inter (union a b) f v, bit-union a b v, bit-union (inter a f) (inter b f) v, bit-inter a f v, bit-inter b f v))
+
+diff-union : (a b f : ℕ) → diff (union a b) f ≡ union (diff a f) (diff b f)
+diff-union a b f =
+    ext _ _ (λ v. omega (arith, bit-diff (union a b) f v, bit-union a b v, bit-union (diff a f) (diff b f) v, bit-diff a f v, bit-diff b f v))
+
+pub disjoint-union : (a b f : ℕ) → disjoint (union a b) f ≡ disjoint a f && disjoint b f
+unfolding disjoint
+disjoint-union a b f = ap (λ x. eqb x 0) (inter-union a b f) ∙ empty-union (inter a f) (inter b f)
 
 pub subset-union : (a b f : ℕ) → subset (union a b) f ≡ subset a f && subset b f
-subset-union a b f = go (subset a f) (subset b f) refl refl
-  where
-    go : (x y : Bool) → subset a f ≡ x → subset b f ≡ y → subset (union a b) f ≡ x && y
-    go true true p q =
-        within-subset (union a b) f
-        (record { keeps = λ v. omega (arith, bit-union a b v, subset-within a f p .keeps v, subset-within b f q .keeps v) })
-    go true false p q =
-        let w = subset-false b f q in
-        leaves (union a b) f (w .0) (omega (arith, bit-union a b (w .0), bit-le a (w .0), w .1)) (w .2)
-    go false y p q =
-        let w = subset-false a f p in
-        leaves (union a b) f (w .0) (omega (arith, bit-union a b (w .0), bit-le b (w .0), w .1)) (w .2)
+unfolding subset
+subset-union a b f = ap (λ x. eqb x 0) (diff-union a b f) ∙ empty-union (diff a f) (diff b f)
 
 -- ---- tests of one element
 
@@ -70,22 +72,14 @@ disjoint-single v f = go (has f v) refl
   where
     go : (b : Bool) → has f v ≡ b → disjoint (single v) f ≡ not b
     go true e = meets (single v) f v (bit-single-same v) (has-true f v e)
-    go false e = apart-disjoint (single v) f (record { avoids = λ u. one u (ℕ-discrete u v) })
-      where
-        one : (u : ℕ) → Dec (u ≡ v) → bit (single v) u + bit f u ≤ 1
-        one u (yes p) = rw p (omega (arith, bit-le (single v) v, has-false f v e))
-        one u (no d) = omega (arith, bit-single-other v u d, bit-le f u)
+    go false e = apart-disjoint (single v) f (single-apart v f (has-false f v e))
 
 pub subset-single : (v f : ℕ) → subset (single v) f ≡ has f v
 subset-single v f = go (has f v) refl
   where
     go : (b : Bool) → has f v ≡ b → subset (single v) f ≡ b
+    go true e = within-subset (single v) f (single-within v f (has-true f v e))
     go false e = leaves (single v) f v (bit-single-same v) (has-false f v e)
-    go true e = within-subset (single v) f (record { keeps = λ u. one u (ℕ-discrete u v) })
-      where
-        one : (u : ℕ) → Dec (u ≡ v) → bit (single v) u ≤ bit f u
-        one u (yes p) = rw p (omega (arith, bit-le (single v) v, has-true f v e))
-        one u (no d) = omega (arith, bit-single-other v u d)
 
 -- ---- two masks say what the list says
 
@@ -106,45 +100,38 @@ subset-none : (f : ℕ) → subset 0 f ≡ true
 unfolding subset diff
 subset-none f = refl
 
--- Bool algebra
-not-and : (c d : Bool) → not (c && d) ≡ not c || not d
-not-and true d = refl
-not-and false d = refl
+-- a rule is obeyed where the opposites of its literals are not all true
+not-and : (c d : Bool) → not (c && d) ≡ not d || not c
+not-and true d = sym (or-false (not d))
+not-and false d = sym (or-true (not d))
 
-not-not-or : (a : Bool) → not (not a) || not true ≡ a
-not-not-or true = refl
-not-not-or false = refl
+obeys-unless : (f p q : ℕ) → not (allHoldMasks f q p) ≡ obeysMasks f p q
+unfolding obeysMasks allHoldMasks
+obeys-unless f p q = not-and (subset q f) (disjoint p f)
 
-and-true : (a : Bool) → a && true ≡ a
-and-true true = refl
-and-true false = refl
-
-or-swap : (a b c d : Bool) → not (a && b) || not (c && d) ≡ (not a || not c) || (not b || not d)
-or-swap true true c d = not-and c d
-or-swap true false true d = refl
-or-swap true false false d = refl
-or-swap false b c d = refl
-
+-- two sets of literals together
 and-swap : (a b c d : Bool) → (a && b) && (c && d) ≡ (a && c) && (b && d)
 and-swap true b true d = refl
 and-swap true true false d = refl
 and-swap true false false d = refl
 and-swap false b c d = refl
 
--- two sets of literals together
-both-obey : (f a b c d : ℕ) → obeysMasks f (union a b) (union c d) ≡ obeysMasks f a c || obeysMasks f b d
-unfolding obeysMasks
-both-obey f a b c d = rw (disjoint-union a b f, subset-union c d f) (or-swap (disjoint a f) (disjoint b f) (subset c f) (subset d f))
-
 both-hold : (f a b c d : ℕ) → allHoldMasks f (union a b) (union c d) ≡ allHoldMasks f a c && allHoldMasks f b d
 unfolding allHoldMasks
 both-hold f a b c d = rw (subset-union a b f, disjoint-union c d f) (and-swap (subset a f) (subset b f) (disjoint c f) (disjoint d f))
+
+both-obey : (f a b c d : ℕ) → obeysMasks f (union a b) (union c d) ≡ obeysMasks f a c || obeysMasks f b d
+both-obey f a b c d =
+    sym (obeys-unless f (union a b) (union c d))
+    ∙ ap not (both-hold f c d a b ∙ and-comm (allHoldMasks f c a) (allHoldMasks f d b))
+    ∙ not-and (allHoldMasks f d b) (allHoldMasks f c a)
+    ∙ ap₂ (λ x y. x || y) (obeys-unless f a c) (obeys-unless f b d)
 
 -- one literal
 one-obeys : (f : ℕ) (l : Literal) → obeysMasks f (yesBit l) (noBit l) ≡ holds f l
 unfolding obeysMasks yesBit noBit holds
 one-obeys f (pos zero) = none-obeys f
-one-obeys f (pos (suc v)) = rw (disjoint-single v f, subset-none f) (not-not-or (has f v))
+one-obeys f (pos (suc v)) = rw (disjoint-single v f, subset-none f) (or-false (not (not (has f v))) ∙ Bool·not-not (has f v))
 one-obeys f (negsuc v) = rw (subset-single v f, disjoint-none f) refl
 
 one-holds : (f : ℕ) (l : Literal) → 0 < variable l → allHoldMasks f (yesBit l) (noBit l) ≡ holds f l
@@ -179,10 +166,6 @@ obeys-yes f p q v a b = rw (meets p f v a b) refl
 pub obeys-no : (f p q v : ℕ) → bit q v ≡ 1 → bit f v ≡ 0 → obeysMasks f p q ≡ true
 unfolding obeysMasks
 obeys-no f p q v a b = rw (leaves q f v a b) (or-true (not (disjoint p f)))
-  where
-    or-true : (x : Bool) → x || true ≡ true
-    or-true true = refl
-    or-true false = refl
 
 -- the literal that makes it true: one of the first mask that is yes, or one of the second that is no
 pub record TrueLiteral (f p q v : ℕ) : Type 0 where
@@ -197,21 +180,47 @@ obeys-some f p q e = go (disjoint p f) (subset q f) refl refl e
     go true false d s t = let w = subset-false q f s in (w .0, record { truly = inr (w .1, w .2) })
     go true true d s t = absurd (false≢true t)
 
+-- ---- the masks by the sign
+
+-- what a literal, and what a list of them, adds to the mask of one sign
+abbrev pub signBit : Bool → Literal → ℕ
+signBit sign l = cond sign (yesBit l) (noBit l)
+
+abbrev pub signMask : Bool → List Literal → ℕ
+signMask sign ls = cond sign (yesMask ls) (noMask ls)
+
+pub mask-none : (sign : Bool) → signMask sign [] ≡ 0
+unfolding yesMask noMask
+mask-none true = refl
+mask-none false = refl
+
+pub mask-more : (sign : Bool) (l : Literal) (ls : List Literal) → signMask sign (l ∷ ls) ≡ union (signBit sign l) (signMask sign ls)
+unfolding yesMask noMask
+mask-more true l ls = refl
+mask-more false l ls = refl
+
+-- a literal adds nothing, or its variable
+pub sign-bit : (sign : Bool) (l : Literal) → (signBit sign l ≡ 0) ⊎ ((v : ℕ) × (variable l ≡ suc v) × (signBit sign l ≡ single v))
+unfolding yesBit noBit variable
+sign-bit true (pos zero) = inl refl
+sign-bit true (pos (suc v)) = inr (v, refl, refl)
+sign-bit true (negsuc v) = inl refl
+sign-bit false (pos v) = inl refl
+sign-bit false (negsuc v) = inr (v, refl, refl)
+
 -- ---- a list that grows at its end, as a reader builds it
 
 union-assoc : (a b c : ℕ) → union (union a b) c ≡ union a (union b c)
 union-assoc a b c = ext _ _ (λ v. omega (arith, bit-union (union a b) c v, bit-union a b v, bit-union a (union b c) v, bit-union b c v))
 
-module _ (one : Literal → ℕ) (mask : List Literal → ℕ) (none : mask [] ≡ 0)
-    (more : (l : Literal) (ls : List Literal) → mask (l ∷ ls) ≡ union (one l) (mask ls)) where
-  mask-snoc : (done : List Literal) (l : Literal) → mask (done ++ (l ∷ [])) ≡ union (mask done) (one l)
-  mask-snoc [] l = rw (more l [], none) (or-zero-r (one l))
-  mask-snoc (x ∷ done) l = more x _ ∙ ap (union (one x)) (mask-snoc done l) ∙ sym (union-assoc (one x) (mask done) (one l)) ∙ ap (λ m. union m (one l)) (sym (more x done))
+mask-snoc : (sign : Bool) (done : List Literal) (l : Literal) → signMask sign (done ++ (l ∷ [])) ≡ union (signMask sign done) (signBit sign l)
+mask-snoc sign [] l = rw (mask-more sign l [], mask-none sign) (or-zero-r (signBit sign l))
+mask-snoc sign (x ∷ done) l =
+    mask-more sign x _ ∙ ap (union (signBit sign x)) (mask-snoc sign done l)
+    ∙ sym (union-assoc (signBit sign x) (signMask sign done) (signBit sign l)) ∙ ap (λ m. union m (signBit sign l)) (sym (mask-more sign x done))
 
 pub yesMask-snoc : (done : List Literal) (l : Literal) → yesMask (done ++ (l ∷ [])) ≡ union (yesMask done) (yesBit l)
-unfolding yesMask
-yesMask-snoc = mask-snoc yesBit yesMask refl (λ l ls. refl)
+yesMask-snoc = mask-snoc true
 
 pub noMask-snoc : (done : List Literal) (l : Literal) → noMask (done ++ (l ∷ [])) ≡ union (noMask done) (noBit l)
-unfolding noMask
-noMask-snoc = mask-snoc noBit noMask refl (λ l ls. refl)
+noMask-snoc = mask-snoc false

@@ -15,8 +15,10 @@ abbrev μ-loop : tie.MeasureT-loop
 
 loop-again : tie.Need-loop-again Inv-loop μ-loop
 loop-again c =
-    ⊎-elim (λ w. lighter-off (c .before .before .before .before .before .loop .inv) (c .before .before .before .lowest .ensures) (omega arith) (w .2 ∙ w .1 .ensures) (c .remove2 .ensures))
-    (λ w. lighter-on (c .before .before .before .before .before .loop .inv) (c .before .before .before .lowest .ensures) (omega arith) (w .1) (c .remove2 .ensures)) (c .before .if1 .came)
+    let l = c .before .before .before in
+    let g = l .before .before .loop .inv in
+    ⊎-elim (λ w. lighter-off g (l .lowest .ensures) (omega arith) (w .2 ∙ w .1 .ensures) (c .remove2 .ensures))
+    (λ w. lighter-on g (l .lowest .ensures) (omega arith) (w .1) (c .remove2 .ensures)) (c .before .if1 .came)
 
 pub lighter-spec : {M : Type 1} → statement M
 lighter-spec =

@@ -8,9 +8,9 @@ use native.Mathlib.Omega.{arith}
 use lib.ListN.{length, set, length-set}
 use lib.Seq.{getD-set-same, getD-set-other}
 use Rattle.sets.specs.Sets.{bit, remove, Within, Lowest}
-use Rattle.sets.specs.Laws.Bits.{bit-le, bit-zero, bit-remove-same, bit-remove-other, member-lt}
+use Rattle.sets.specs.Laws.Bits.{bit-le, bit-none, bit-remove-same, bit-remove-other, member-lt}
 use Rattle.sets.specs.Laws.Subset.{within-refl, within-trans}
-use Rattle.items.specs.Contracts.{weightIn, Rows, AtMostEach, Enough, TakenOff, Lighter, Item}
+use Rattle.items.specs.Contracts.{weightIn, Rows, AtMostEach, Enough, TakenOff, Lighter, Item, CheapestItem}
 use Rattle.items.specs.Cheapest.{remove-within, remove-less}
 
 -- ---- going over a set
@@ -35,29 +35,59 @@ module _ {s rest v : ℕ} (g : Going s rest) (l : Lowest rest v) where
   pub going-row : {ws : List ℕ} → Rows ws s → v < length ws
   going-row {ws} r = member-lt (length ws) s v going-member (r .rows)
 
--- ---- `least_weight`
+-- ---- `cheapest_item`
 
--- No item gone over weighs less than r.
-pub record AtMostGone (ws : List ℕ) (s rest r : ℕ) : Type 0 where
+-- An item is in hand, and none gone over weighs less.
+pub record ItemGone (ws : List ℕ) (s rest v : ℕ) : Type 0 where
   pub going : Going s rest
-  pub each : (v : ℕ) → bit s v ≡ 1 → bit rest v ≡ 0 → r ≤ weightIn ws v
+  pub item : Item s v
+  pub each : (u : ℕ) → bit s u ≡ 1 → bit rest u ≡ 0 → weightIn ws v ≤ weightIn ws u
 
 module _ {ws : List ℕ} {s : ℕ} where
-  pub least-start : {r : ℕ} → AtMostGone ws s s r
-  least-start = record { going = going-start s; each = λ v e d. absurd (omega arith) }
+  pub item-start : {v : ℕ} → Lowest s v → ItemGone ws s s v
+  item-start l =
+      record {
+        going = going-start s;
+        item = record { small = l .within; member = l .least .member };
+        each = λ u e d. absurd (omega arith);
+      }
 
-  module _ {rest r : ℕ} (g : AtMostGone ws s rest r) where
-    -- the least of the number and the weight of one item more
-    pub least-more : {v q x : ℕ} → Lowest rest v → x ≡ remove rest v → q ≤ r → q ≤ weightIn ws v → AtMostGone ws s x q
-    least-more {v} {q} l e h k = rw e (record { going = going-more v (g .going) refl; each = at-all })
-      where
-        at-all : (u : ℕ) → bit s u ≡ 1 → bit (remove rest v) u ≡ 0 → q ≤ weightIn ws u
-        at-all u i d =
-            by-cases (ℕ-discrete u v) (λ p. rw p k)
-            (λ p. omega (arith, g .each u i (sym (bit-remove-other rest v u p) ∙ d)))
+  module _ {rest i : ℕ} (g : ItemGone ws s rest i) where
+    pub item-row : Rows ws s → i < length ws
+    item-row r = member-lt (length ws) s i (g .item .member) (r .rows)
 
-    pub least-all : rest ≡ 0 → AtMostEach ws s r
-    least-all e = record { each = λ u i. g .each u i (ap (λ (m : ℕ). bit m u) e ∙ bit-zero u) }
+    -- one item more: the lighter of the two is in hand
+    module _ {v : ℕ} (l : Lowest rest v) where
+      item-more : {j x : ℕ} → Item s j → weightIn ws j ≤ weightIn ws i → weightIn ws j ≤ weightIn ws v → x ≡ remove rest v → ItemGone ws s x j
+      item-more {j} m h k e = rw e (record { going = going-more v (g .going) refl; item = m; each = at-all })
+        where
+          at-all : (u : ℕ) → bit s u ≡ 1 → bit (remove rest v) u ≡ 0 → weightIn ws j ≤ weightIn ws u
+          at-all u i d =
+              by-cases (ℕ-discrete u v) (λ p. rw p k)
+              (λ p. omega (arith, g .each u i (sym (bit-remove-other rest v u p) ∙ d)))
+
+      pub item-kept : {j x : ℕ} → weightIn ws i ≤ weightIn ws v → j ≡ i → x ≡ remove rest v → ItemGone ws s x j
+      item-kept h d e = rw d (item-more (g .item) (omega arith) h e)
+
+      pub item-other : {j x : ℕ} → weightIn ws v ≤ weightIn ws i → j ≡ v → x ≡ remove rest v → ItemGone ws s x j
+      item-other h d e =
+          rw d (item-more (record { small = l .within; member = going-member (g .going) l }) h (omega arith) e)
+
+    pub item-all : rest ≡ 0 → CheapestItem ws s i
+    item-all e = record { item = g .item; at-most = record { each = λ u i. g .each u i (bit-none rest u e) } }
+
+-- ---- `least_weight`
+
+module _ {ws : List ℕ} {s : ℕ} where
+  pub least-none : {r : ℕ} → s ≡ 0 → AtMostEach ws s r
+  least-none e = record { each = λ u i. absurd (omega (arith, i, bit-none s u e)) }
+
+  module _ {v : ℕ} (c : CheapestItem ws s v) where
+    pub least-row : Rows ws s → v < length ws
+    least-row r = member-lt (length ws) s v (c .item .member) (r .rows)
+
+    pub least-item : AtMostEach ws s (weightIn ws v)
+    least-item = c .at-most
 
 -- ---- `take_off`
 
@@ -116,7 +146,7 @@ module _ {ws : List ℕ} {s amount : ℕ} where
   take-all {us} {rest} g e = record { rows = g .rows; each = λ v. omega (arith, g .each v, ap (λ (d : ℕ). d * amount) (all v)) }
     where
       all : (v : ℕ) → bit s v - bit rest v ≡ bit s v
-      all v = omega (arith, ap (λ (m : ℕ). bit m v) e, bit-zero v)
+      all v = omega (arith, bit-none rest v e)
 
 -- ---- `lighter`
 
@@ -163,33 +193,14 @@ module _ {ws : List ℕ} {s than : ℕ} where
     pub lighter-all : rest ≡ 0 → Lighter ws s than r
     lighter-all e =
         record {
-          of-set = λ u i. (omega (arith, i, g .of-set .keeps u, bit-le s u), g .light u i (ap (λ (m : ℕ). bit m u) e ∙ bit-zero u));
+          of-set = λ u i. (omega (arith, i, g .of-set .keeps u, bit-le s u), g .light u i (bit-none rest u e));
           all-lighter = g .all-lighter;
         }
 
--- ---- `cheapest_item`
-
--- An item is in hand.
-pub record ItemGone (s rest v : ℕ) : Type 0 where
-  pub going : Going s rest
-  pub item : Item s v
-
-module _ {s : ℕ} where
-  pub item-start : {v : ℕ} → Lowest s v → ItemGone s s v
-  item-start l = record { going = going-start s; item = record { small = l .within; member = l .least .member } }
-
-  module _ {rest i v : ℕ} (g : ItemGone s rest i) (l : Lowest rest v) where
-    pub item-kept : {j x : ℕ} → j ≡ i → x ≡ remove rest v → ItemGone s x j
-    item-kept d e = rw d (record { going = going-more v (g .going) e; item = g .item })
-
-    pub item-other : {j x : ℕ} → j ≡ v → x ≡ remove rest v → ItemGone s x j
-    item-other d e =
-        rw d (record { going = going-more v (g .going) e; item = record { small = l .within; member = going-member (g .going) l } })
-
-pub ruleset least-laws = (going-less, going-row, least-start, least-more, least-all)
+pub ruleset least-laws = (least-none, least-row, least-item)
 
 pub ruleset take-laws = (going-less, take-start, take-enough, take-row, take-more, take-all)
 
 pub ruleset lighter-laws = (going-less, going-row, lighter-start, lighter-off, lighter-on, lighter-all)
 
-pub ruleset item-laws = (going-less, going-row, item-start, item-kept, item-other)
+pub ruleset item-laws = (going-less, going-row, item-row, item-start, item-kept, item-other, item-all)

@@ -6,15 +6,9 @@ use Rattle.sets.specs.Sets.{diff, compl}
 use Rattle.sets.proofs.complement.Statement.{statement}
 use Rattle.sets.proofs.complement.Tie as tie
 
-full-requires : tie.Need-full-requires
-full-requires c κs = search needs
-
-difference-requires : tie.Need-difference-requires
-difference-requires c κs = search needs
-
 returns : tie.Need-returns
 unfolding compl
 returns c = c .difference .ensures ∙ ap (λ (x : ℕ). diff x (c .before .before .args .m)) (c .before .full .ensures)
 
 pub complement-spec : {M : Type 1} → statement M
-complement-spec = tie.close (tie.spec full-requires difference-requires returns)
+complement-spec = tie.close (tie.spec (λ c κs. search needs) (λ c κs. search needs) returns)

@@ -5,15 +5,9 @@ use Rattle.sets.specs.Sets.{diff, remove}
 use Rattle.sets.proofs.remove.Statement.{statement}
 use Rattle.sets.proofs.remove.Tie as tie
 
-single-requires : tie.Need-single-requires
-single-requires c κs = search needs
-
-difference-requires : tie.Need-difference-requires
-difference-requires c κs = search needs
-
 returns : tie.Need-returns
 unfolding remove
 returns c = c .difference .ensures ∙ ap (diff (c .before .before .args .m)) (c .before .single .ensures)
 
 pub remove-spec : {M : Type 1} → statement M
-remove-spec = tie.close (tie.spec single-requires difference-requires returns)
+remove-spec = tie.close (tie.spec (λ c κs. search needs) (λ c κs. search needs) returns)

@@ -3,10 +3,10 @@ use mathlib.Core.Path.{_≡_, refl, ap, _∙_}
 use mathlib.Core.Logic.{_≢_, by-cases}
 use Prim.Native.Nat.{ℕ, zero, suc, _+_, _-_, _/_, _%_, _^_, _≤_, _<_, min, max, suc-le-suc}
 use native.Mathlib.Nat.{pow-suc}
-use native.Mathlib.Decide.{decLt}
+use native.Mathlib.Decide.{decLt, ℕ-discrete}
 use native.Mathlib.Omega.{arith}
 use lib.Pow.{pow-pos, pow-lt, pow-mono, ones-lt}
-use lib.Bits.{bitXor, and-step, or-step, xor-add-and, and-shr, or-shr, xor-shr, and-le-l, and-zero-r, or-lt}
+use lib.Bits.{and-step, or-step, and-shr, or-shr, and-le-l, and-zero-r, or-lt}
 use Rattle.sets.specs.Sets.{bit, single, full, union, inter, diff, compl, insert, remove}
 
 -- ---- a digit
@@ -21,10 +21,14 @@ unfolding bit
 bit-zero zero = refl
 bit-zero (suc v) = bit-zero v
 
+-- a set with no element
+pub bit-none : (m v : ℕ) → m ≡ 0 → bit m v ≡ 0
+bit-none m v e = rw e (bit-zero v)
+
 -- a mask of n bits has no element from n on
 pub bit-high : (n m v : ℕ) → m < 2 ^ n → n ≤ v → bit m v ≡ 0
 unfolding bit
-bit-high zero m v h l = let e : m ≡ 0 = omega arith in rw e (bit-zero v)
+bit-high zero m v h l = bit-none m v (omega arith)
 bit-high (suc n) m zero h l = omega arith
 bit-high (suc n) m (suc v) h l = bit-high n (m / 2) v (omega (arith, pow-suc 2 n)) (omega arith)
 
@@ -39,11 +43,6 @@ pub bit-inter : (a b v : ℕ) → bit (inter a b) v ≡ min (bit a v) (bit b v)
 unfolding bit
 bit-inter a b zero = omega (arith, and-step a b)
 bit-inter a b (suc v) = ap (λ (x : ℕ). bit x v) (and-shr a b 1) ∙ bit-inter (a / 2) (b / 2) v
-
-pub bit-xor : (a b v : ℕ) → bit (bitXor a b) v ≡ (bit a v + bit b v) % 2
-unfolding bit
-bit-xor a b zero = omega (arith, xor-add-and a b)
-bit-xor a b (suc v) = ap (λ (x : ℕ). bit x v) (xor-shr a b 1) ∙ bit-xor (a / 2) (b / 2) v
 
 -- the lowest digit of a difference, and the rest
 pub diff-half : (a b : ℕ) → diff a b / 2 ≡ diff (a / 2) (b / 2)
@@ -82,6 +81,11 @@ bit-single-other zero (suc u) n = bit-zero u
 bit-single-other (suc v) zero n = single-even v
 bit-single-other (suc v) (suc u) n = ap (λ (x : ℕ). bit x u) (single-half v) ∙ bit-single-other v u (λ e. n (ap suc e))
 
+-- what holds of a 1 at v and of a 0 elsewhere holds of each digit of the set of v alone
+pub single-digits : (P : ℕ → ℕ → Type 0) (v : ℕ) → P v 1 → ((u : ℕ) → P u 0) → (u : ℕ) → P u (bit (single v) u)
+single-digits P v one none u =
+    by-cases (ℕ-discrete u v) (λ p. rw p (rw (bit-single-same v) one)) (λ p. rw (bit-single-other v u p) (none u))
+
 pub bit-full : (n v : ℕ) → v < n → bit (full n) v ≡ 1
 unfolding bit
 bit-full zero v h = omega arith
@@ -105,13 +109,13 @@ pub bit-insert-same : (m v : ℕ) → bit (insert m v) v ≡ 1
 unfolding insert
 bit-insert-same m v = omega (arith, bit-union m (single v) v, bit-single-same v, bit-le m v)
 
-pub bit-insert-other : (m v u : ℕ) → u ≢ v → bit (insert m v) u ≡ bit m u
-unfolding insert
-bit-insert-other m v u n = omega (arith, bit-union m (single v) u, bit-single-other v u n)
-
 pub bit-remove-same : (m v : ℕ) → bit (remove m v) v ≡ 0
 unfolding remove
 bit-remove-same m v = omega (arith, bit-diff m (single v) v, bit-single-same v, bit-le m v)
+
+pub bit-insert-other : (m v u : ℕ) → u ≢ v → bit (insert m v) u ≡ bit m u
+unfolding insert
+bit-insert-other m v u n = omega (arith, bit-union m (single v) u, bit-single-other v u n)
 
 pub bit-remove-other : (m v u : ℕ) → u ≢ v → bit (remove m v) u ≡ bit m u
 unfolding remove

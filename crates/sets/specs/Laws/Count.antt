@@ -8,8 +8,8 @@ use lib.Arith.{bin-ind}
 use lib.Bits.{or-step, and-step, or-shr, and-shr, and-comm}
 use lib.Count.{ones, ones-step}
 use Rattle.sets.specs.Sets.{bit, single, union, inter, diff, insert, remove, Within, Apart}
-use Rattle.sets.specs.Laws.Bits.{bit-le, bit-inter, bit-single-other, diff-half, diff-odd, diff-le, single-half, single-even, ext}
-use Rattle.sets.specs.Laws.Subset.{inter-within, inter-apart, within-le}
+use Rattle.sets.specs.Laws.Bits.{diff-half, diff-odd, diff-le, single-half, single-even}
+use Rattle.sets.specs.Laws.Subset.{inter-within, inter-apart, within-le, apart-symm, single-within, single-apart}
 
 pub ones-zero : ones 0 ≡ 0
 unfolding ones
@@ -63,23 +63,13 @@ ones-diff-inter =
 pub ones-union : (a b : ℕ) → Apart a b → ones (union a b) ≡ ones a + ones b
 ones-union a b p = omega (arith, ones-union-inter a b, ap ones (inter-apart a b p), ones-zero)
 
--- v against a set that has it, and against one that has it not
+-- v against a set that has it
 pub inter-single : (m v : ℕ) → bit m v ≡ 1 → inter m (single v) ≡ single v
-inter-single m v e =
-    ext (inter m (single v)) (single v) (λ u. by-cases (ℕ-discrete u v)
-    (λ p. omega (arith, bit-inter m (single v) u, ap (bit m) p, bit-le (single v) u))
-    (λ p. omega (arith, bit-inter m (single v) u, bit-single-other v u p)))
-
-pub apart-single : (m v : ℕ) → bit m v ≡ 0 → Apart m (single v)
-apart-single m v e =
-    record {
-      avoids = λ u.
-          by-cases (ℕ-discrete u v) (λ p. omega (arith, ap (bit m) p, bit-le (single v) u)) (λ p. omega (arith, bit-single-other v u p, bit-le m u));
-    }
+inter-single m v e = and-comm m (single v) ∙ inter-within (single v) m (single-within v m e)
 
 pub ones-insert : (m v : ℕ) → bit m v ≡ 0 → ones (insert m v) ≡ suc (ones m)
 unfolding insert
-ones-insert m v e = omega (arith, ones-union m (single v) (apart-single m v e), ones-single v)
+ones-insert m v e = omega (arith, ones-union m (single v) (apart-symm (single v) m (single-apart v m e)), ones-single v)
 
 pub ones-remove : (m v : ℕ) → bit m v ≡ 1 → suc (ones (remove m v)) ≡ ones m
 unfolding remove
@@ -95,3 +85,7 @@ ones-proper a b w n =
     by-cases (ℕ-discrete (ones (diff b a)) 0)
     (λ z. absurd (omega (arith, zero-of-ones (diff b a) z, within-le a b w)))
     (λ z. omega (arith, ones-diff-inter b a, ap ones same))
+
+-- a part without an element of the whole has fewer
+pub ones-less : (a b v : ℕ) → Within a b → bit b v ≡ 1 → bit a v ≡ 0 → ones a < ones b
+ones-less a b v w p q = ones-proper a b w (λ s. absurd (omega (arith, ap (λ (x : ℕ). bit x v) s)))

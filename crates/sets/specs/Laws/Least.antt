@@ -1,19 +1,11 @@
 -- The least element of a set, and that a set which is not empty has one. Assumes nothing.
 use mathlib.Core.Path.{_≡_, refl}
-use mathlib.Core.Logic.{by-cases}
-use Prim.Native.Nat.{ℕ, zero, suc, _/_, _%_, _^_, _≤_, _<_}
+use Prim.Native.Nat.{ℕ, zero, suc, _/_, _%_, _^_, _<_}
 use native.Mathlib.Nat.{pow-suc}
-use native.Mathlib.Decide.{decLe}
 use native.Mathlib.Omega.{arith}
 use lib.Count.{trailingZeros, under}
 use Rattle.sets.specs.Sets.{bit, LeastMember}
 use Rattle.sets.specs.Laws.Bits.{lt-pow, member-lt}
-
-pub least-le : (m r v : ℕ) → LeastMember m r → bit m v ≡ 1 → r ≤ v
-least-le m r v l e = by-cases (decLe r v) (λ h. h) (λ h. omega (arith, l .first v (omega arith)))
-
-pub least-member-unique : (m r s : ℕ) → LeastMember m r → LeastMember m s → r ≡ s
-least-member-unique m r s a b = omega (arith, least-le m r s a (b .member), least-le m s r b (a .member))
 
 -- the least element by the lowest digit: it is 0, or one more than that of the rest
 pub least-odd : (m : ℕ) → m % 2 ≡ 1 → LeastMember m 0

@@ -44,7 +44,12 @@ unfolding membersFrom
 length-from zero v m h = let z : m ≡ 0 = omega arith in omega (arith, ap ones z, ones-zero)
 length-from (suc n) v m h =
     ap length (from-step n v m)
-    ∙ omega (arith, length-keep (m % 2) v (membersFrom n (suc v) (m / 2)) (omega arith), length-from n (suc v) (m / 2) (omega (arith, pow-suc 2 n)), ones-step m)
+    ∙ omega (
+      arith,
+      length-keep (m % 2) v (membersFrom n (suc v) (m / 2)) (omega arith),
+      length-from n (suc v) (m / 2) (omega (arith, pow-suc 2 n)),
+      ones-step m,
+    )
 
 pub members-length : (n m : ℕ) → m < 2 ^ n → length (membersBelow n m) ≡ ones m
 unfolding membersBelow
