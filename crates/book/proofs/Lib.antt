@@ -1,12 +1,11 @@
 pub mod BookLaws
-pub mod CheckLaws
+pub mod CostLaws
 pub mod FactLaws
-pub mod LiteralLaws
+pub mod HeaderLaws
 pub mod ManyLaws
-pub mod MarkLaws
 pub mod NumberLaws
 pub mod PaddedLaws
 pub mod PartLaws
 pub mod RuleLaws
-pub mod TableLaws
+pub mod ValueLaws
 pub mod WellFormed

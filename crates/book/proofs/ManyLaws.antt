@@ -1,72 +1,125 @@
--- Records in a row (`many`), as a loop reads them: what holds after i of them, and what one more changes.
+-- Records in a row, as a loop reads them: what holds after some of them, and what one more record changes. The laws are over any row;
+-- `many` is one by `many-due` and `many-over`, and `factsFrom` by `facts-due` and `facts-over` (FactLaws).
 -- Assumes nothing.
 use mathlib.Core.Path.{_≡_, refl, sym, ap, _∙_}
 use mathlib.Core.List.{List, [], _∷_, _++_}
-use Prim.Native.Nat.{ℕ, suc, _+_, _-_, _≤_, _<_, zero-le}
+use Prim.Native.Nat.{ℕ, suc, _+_, _-_, _≤_, _<_}
 use native.Mathlib.Nat.{sub-zero, le-of-eq}
 use native.Mathlib.Numerals.{add-one}
 use native.Mathlib.Omega.{arith}
-use lib.ListN.{length, take, drop, length-append, length-drop}
+use lib.ListN.{length, take, drop, length-drop}
 use lib.Seq.{take-all}
-use Rattle.book.specs.Format.{RecordRead, says, fails, Read, value, refused, withItem, many}
+use Rattle.records.specs.Format.{RecordRead, says, fails, Read, value, refused, begin, withItem, many}
+
+-- The part that `&s[place..]` is.
+abbrev pub partFrom : List ℕ → ℕ → List ℕ
+partFrom s place = take (length s - place) (drop place s)
+
+pub part-from : (s : List ℕ) (place : ℕ) → partFrom s place ≡ drop place s
+part-from s place = take-all _ _ (le-of-eq (length-drop place s))
+
+-- A record that is whole: what it says, with a property, and its bytes are there.
+pub record Whole {A : Type 0} (P : A → Type 0) (t : List ℕ) (len : ℕ) (r : RecordRead A) : Type 0 where
+  pub item : A
+  pub said : r ≡ says item len
+  pub within : len ≤ length t
+  pub holds : P item
 
 module _ {A : Type 0} where
-  -- items that were read before the others
+  -- Items that were read before the others.
   abbrev pub prefixed : List A → Read (List A) → Read (List A)
   prefixed [] r = r
   prefixed (a ∷ done) r = withItem a (prefixed done r)
 
-  pub prefixed-snoc : (done : List A) (a : A) (r : Read (List A)) → prefixed (done ++ (a ∷ [])) r ≡ prefixed done (withItem a r)
+  prefixed-snoc : (done : List A) (a : A) (r : Read (List A)) → prefixed (done ++ (a ∷ [])) r ≡ prefixed done (withItem a r)
   prefixed-snoc [] a r = refl
   prefixed-snoc (x ∷ done) a r = ap (withItem x) (prefixed-snoc done a r)
 
-  pub prefixed-refused : (done : List A) (number place : ℕ) → prefixed done (refused number place) ≡ refused number place
+  prefixed-refused : (done : List A) (number place : ℕ) → prefixed done (refused number place) ≡ refused number place
   prefixed-refused [] number place = refl
   prefixed-refused (x ∷ done) number place = ap (withItem x) (prefixed-refused done number place)
 
-  pub prefixed-value : (done : List A) (place : ℕ) → prefixed done (value [] place) ≡ value done place
+  prefixed-value : (done : List A) (place : ℕ) → prefixed done (value [] place) ≡ value done place
   prefixed-value [] place = refl
   prefixed-value (x ∷ done) place = ap (withItem x) (prefixed-value done place)
 
-module _ {A : Type 0} (recordAt : ℕ → List ℕ → RecordRead A) (s : List ℕ) (total from : ℕ) where
-  -- after i of the records: those read, and the place of the next
-  pub record Walked (done : List A) (i place : ℕ) : Type 0 where
-    pub counted : length done ≡ i
-    pub so-far : many recordAt s total 1 from ≡ prefixed done (many recordAt s (total - i) (suc i) place)
+  -- A record is due at a place: `rest` is what the record is, its item, and what is read after it.
+  pub record Due (rest : Read (List A)) (place : ℕ) (r : RecordRead A) (after : A → ℕ → Read (List A)) : Type 0 where
+    pub due : rest ≡ begin place r (λ a next. withItem a (after a next))
+
+  pub due-refused : {rest : Read (List A)} {place number : ℕ} {r : RecordRead A} {after : A → ℕ → Read (List A)} → Due rest place r after → r ≡ fails number
+      → rest ≡ refused number place
+  due-refused d f = rw (d .due, f) refl
+
+  -- In the row `whole`, after some of its records: those read, what is kept of them, and what is still to be read from a place on.
+  pub record Walked (s : List ℕ) (whole : Read (List A)) (Kept : List A → Type 0) (rest : Read (List A)) (place : ℕ) : Type 0 where
+    pub done : List A
+    pub kept : Kept done
+    pub so-far : whole ≡ prefixed done rest
     pub within : place ≤ length s
-    pub upto : i ≤ total
 
-  pub walked-none : from ≤ length s → Walked [] 0 from
-  walked-none h = record { counted = refl; so-far = rw sub-zero; within = h; upto = zero-le }
+  module _ {s : List ℕ} {whole rest : Read (List A)} {Kept : List A → Type 0} {place : ℕ} where
+    -- the row begins
+    pub walked-none : whole ≡ rest → Kept [] → place ≤ length s → Walked s whole Kept rest place
+    walked-none e k h = record { done = []; kept = k; so-far = e; within = h }
 
-  pub walked-more : {done : List A} {i place : ℕ} (a : A) (len : ℕ) → Walked done i place → i < total → recordAt (i + 1) (drop place s) ≡ says a len → len ≤ length (drop place s)
-      → Walked (done ++ (a ∷ [])) (i + 1) (place + len)
+    -- a record that is whole lies within the bytes
+    pub walked-within : {P : A → Type 0} {len : ℕ} {r : RecordRead A} → Walked s whole Kept rest place → Whole P (partFrom s place) len r
+        → place + len ≤ length s
+    walked-within g w = omega (arith, g .within, simp (part-from, length-drop) at (w .within))
+
+    -- one more record is read
+    pub walked-more : {Kept′ : List A → Type 0} {P : A → Type 0} {len : ℕ} {r : RecordRead A} {after : A → ℕ → Read (List A)}
+        → Walked s whole Kept rest place → Due rest place r after → (w : Whole P (partFrom s place) len r)
+        → ((done : List A) → Kept done → Kept′ (done ++ (w .item ∷ []))) → Walked s whole Kept′ (after (w .item) (place + len)) (place + len)
+    walked-more {len = len} {after = after} g d w k =
+        let step : rest ≡ withItem (w .item) (after (w .item) (place + len)) = rw (d .due, w .said) refl in
+        record {
+          done = g .done ++ (w .item ∷ []);
+          kept = k (g .done) (g .kept);
+          so-far = g .so-far ∙ ap (prefixed (g .done)) step ∙ sym (prefixed-snoc (g .done) (w .item) _);
+          within = walked-within g w;
+        }
+
+    -- what is still to be read is refused
+    pub walked-refused : {number end : ℕ} → Walked s whole Kept rest place → rest ≡ refused number end → whole ≡ refused number end
+    walked-refused {number} {end} g e = g .so-far ∙ ap (prefixed (g .done)) e ∙ prefixed-refused (g .done) number end
+
+    -- the row ends
+    pub walked-all : {end : ℕ} (g : Walked s whole Kept rest place) → rest ≡ value [] end → whole ≡ value (g .done) end
+    walked-all {end} g e = g .so-far ∙ ap (prefixed (g .done)) e ∙ prefixed-value (g .done) end
+
+module _ {A : Type 0} (recordAt : ℕ → List ℕ → RecordRead A) (s : List ℕ) (total : ℕ) where
+  -- After i of so many records of one kind, what is still to be read.
+  abbrev pub manyLeft : ℕ → ℕ → Read (List A)
+  manyLeft i place = many recordAt s (total - i) (suc i) place
+
+  pub many-begun : (place : ℕ) → many recordAt s total 1 place ≡ manyLeft 0 place
+  many-begun place = rw sub-zero refl
+
+  many-due : (i place : ℕ) → i < total → Due (manyLeft i place) place (recordAt (i + 1) (partFrom s place)) (λ a next. manyLeft (i + 1) next)
   unfolding many
-  walked-more {done} {i} {place} a len w l e f =
+  many-due i place l =
       let left : total - i ≡ suc (total - (i + 1)) = omega arith in
-      let step : many recordAt s (total - i) (suc i) place ≡ withItem a (many recordAt s (total - (i + 1)) (suc (i + 1)) (place + len)) =
-      rw (left, ← (add-one i), e) refl in
-      record {
-        counted = length-append (done) (a ∷ []) ∙ ap (λ n. n + 1) (w .counted);
-        so-far = w .so-far ∙ ap (prefixed (done)) step ∙ sym (prefixed-snoc (done) a _);
-        within = omega (arith, w .within, simp length-drop at f);
-        upto = omega arith;
-      }
+      record { due = rw (left, ← (add-one i), part-from) refl }
 
-  pub walked-refused : {done : List A} {i place : ℕ} (number : ℕ) → Walked done i place → i < total → recordAt (i + 1) (drop place s) ≡ fails number
-      → many recordAt s total 1 from ≡ refused number place
+  many-over : (i place : ℕ) → total ≤ i → manyLeft i place ≡ value [] place
   unfolding many
-  walked-refused {done} {i} {place} number w l e =
-      let left : total - i ≡ suc (total - (i + 1)) = omega arith in
-      let step : many recordAt s (total - i) (suc i) place ≡ refused number place = rw (left, ← (add-one i), e) refl in
-      w .so-far ∙ ap (prefixed (done)) step ∙ prefixed-refused (done) number place
+  many-over i place l = let left : total - i ≡ 0 = omega arith in rw left refl
 
-  pub walked-all : {done : List A} {i place : ℕ} → Walked done i place → total ≤ i → many recordAt s total 1 from ≡ value done place
-  unfolding many
-  walked-all {done} {i} {place} w l =
-      let left : total - i ≡ 0 = omega arith in
-      w .so-far ∙ ap (prefixed (done)) (rw left refl) ∙ prefixed-value done place
+-- A loop over so many records of one kind: one more of them, and the loop's answer where one fails and where all are read.
+module _ {A : Type 0} (recordAt : ℕ → List ℕ → RecordRead A) (s : List ℕ) (total from i place : ℕ) {Kept : List A → Type 0}
+    (g : Walked s (many recordAt s total 1 from) Kept (manyLeft recordAt s total i place) place) where
+  pub many-more : {Kept′ : List A → Type 0} {P : A → Type 0} {len : ℕ} → i < total
+      → (w : Whole P (partFrom s place) len (recordAt (i + 1) (partFrom s place))) → ((done : List A) → Kept done → Kept′ (done ++ (w .item ∷ [])))
+      → Walked s (many recordAt s total 1 from) Kept′ (manyLeft recordAt s total (i + 1) (place + len)) (place + len)
+  many-more l w k = walked-more g (many-due recordAt s total i place l) w k
 
--- the part that `&s[place..]` is
-pub part-from : (s : List ℕ) (place : ℕ) → take (length s - place) (drop place s) ≡ drop place s
-part-from s place = take-all _ _ (le-of-eq (length-drop place s))
+module _ {A B : Type 0} (answer : Read (List A) → B) (recordAt : ℕ → List ℕ → RecordRead A) (s : List ℕ) (total from i place : ℕ)
+    {Kept : List A → Type 0} (g : Walked s (many recordAt s total 1 from) Kept (manyLeft recordAt s total i place) place) where
+  pub many-refused : {number : ℕ} → i < total → recordAt (i + 1) (partFrom s place) ≡ fails number
+      → answer (refused number place) ≡ answer (many recordAt s total 1 from)
+  many-refused l f = ap answer (sym (walked-refused g (due-refused (many-due recordAt s total i place l) f)))
+
+  pub many-all : total ≤ i → answer (value (g .done) place) ≡ answer (many recordAt s total 1 from)
+  many-all l = ap answer (sym (walked-all g (many-over recordAt s total i place l)))

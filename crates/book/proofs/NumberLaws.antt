@@ -7,7 +7,9 @@ use Prim.Native.Nat.{ℕ, zero, suc, _≤_}
 use native.Mathlib.Omega.{arith}
 use borrow.Author.Tests.{leb-true}
 use lib.Dec.{leb}
-use Rattle.book.specs.Format.{RecordRead, says, fails, Read, value, refused, check, checkedFirst, begin, andThen, withItem, OrderBook, opened, headerValues, headerAt, costValues, costAt, ruleValues, ruleAt, factValues, factAt, endAt, many, factsFrom, fromRules, readBook}
+use Rattle.records.specs.Format.{RecordRead, says, fails, Read, value, refused, check, checkedFirst, begin, andThen, withItem, OrderBook, opened}
+use Rattle.records.specs.Format.{headerValues, headerAt, costValues, costAt, ruleValues, ruleAt, factValues, factAt, endAt}
+use Rattle.records.specs.Format.{many, factsFrom, fromRules, readBook}
 
 -- A record that says something, or fails with a number from 1 to 7. The bounds are tests, so that `refl` proves them of a numeral.
 data Numbered {A : Type 0} : RecordRead A → Type 0 where
@@ -39,7 +41,8 @@ module _ {A : Type 0} where
   cond-numbered false p q = q
 
 module _ {A B : Type 0} where
-  begin-numbered : (place : ℕ) {r : RecordRead A} {next : A → ℕ → Read B} → Numbered r → ((a : A) (p : ℕ) → AllNumbered (next a p)) → AllNumbered (begin place r next)
+  begin-numbered : (place : ℕ) {r : RecordRead A} {next : A → ℕ → Read B} → Numbered r → ((a : A) (p : ℕ) → AllNumbered (next a p))
+      → AllNumbered (begin place r next)
   begin-numbered place speaks f = f _ _
   begin-numbered place (fails-with l m) f = refused-with l m
 

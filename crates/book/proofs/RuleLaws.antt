@@ -1,78 +1,53 @@
--- Reading the rules: the answer of one RL record taken back, and the arrays that the masks are put into.
+-- Reading the rules: the answer of one RL record taken back, and what holds of one that is whole.
 -- Assumes nothing.
-use mathlib.Core.Path.{_≡_, refl, ap, _∙_}
-use mathlib.Core.Bool.{Bool}
-use mathlib.Core.List.{List, [], _∷_, _++_, map}
-use Prim.Native.Nat.{ℕ, _+_, _-_, _≤_, _<_}
+use mathlib.Core.Path.{_≡_, refl}
+use mathlib.Core.Bool.{true}
+use mathlib.Core.List.{List, map}
+use Prim.Native.Nat.{ℕ, _+_}
 use native.Mathlib.Omega.{arith}
 use borrow.Author.Tests.{leb-true}
 use lib.Dec.{leb}
-use lib.ListN.{length, take, drop, set, replicate}
+use lib.ListN.{length, take, drop}
 use Rattle.literals.specs.Literal.{Literal, ofByte}
-use Rattle.literals.specs.Truth.{yesMask, noMask}
 use Rattle.literals.specs.declared.LiteralSet.{LiteralSet}
-use Rattle.book.specs.Limits.{maxRules, maxLiterals}
-use Rattle.book.specs.Format.{RecordRead, says, fails, check, opened, byte, rising, ruleAt, ruleValues, RL}
-use Rattle.book.specs.Answer.{padded}
-use Rattle.book.specs.Contracts.{masks, ruleAnswer}
-use Rattle.book.specs.declared.rules.RuleRead.{RuleRead}
-use Rattle.book.specs.declared.rules.RuleRead.the-variants as RuleRead
-use Rattle.book.proofs.CheckLaws.{checked-first-says, check-says}
-use Rattle.book.proofs.ManyLaws.{Walked, walked-none, walked-more}
-use Rattle.book.proofs.PaddedLaws.{filled}
+use Rattle.records.specs.Limits.{maxLiterals}
+use Rattle.records.specs.Format.{RecordRead, says, fails, opened, byte, rising, ruleAt, ruleValues, RL}
+use Rattle.records.specs.Contracts.{masks, ruleAnswer}
+use Rattle.records.specs.declared.rules.RuleRead.{RuleRead}
+use Rattle.records.specs.declared.rules.RuleRead.the-variants as RuleRead
+use Rattle.records.proofs.CheckLaws.{Good, says-same, checked-first-says, check-says}
+use Rattle.book.proofs.ManyLaws.{Whole}
 
--- the answer of an RL record, taken back
 pub rule-fails : (m : RecordRead (List Literal)) {r : RuleRead} {number : ℕ} → r ≡ ruleAnswer m → r ≡ RuleRead.Fails number → m ≡ fails number
 unfolding ruleAnswer
 rule-fails (says ls len) e f = let z : _≡_ {A = ℕ} 0 1 = cc in absurd (omega arith)
 rule-fails (fails n) e f = cc
 
-pub record RuleSaid (m : RecordRead (List Literal)) (two : LiteralSet) (len : ℕ) : Type 0 where
-  pub rule : List Literal
-  pub said : m ≡ says rule len
-  pub as-masks : two ≡ masks rule
+-- The literals of a rule rise over the variables of the book.
+pub record LiteralsRise (n : ℕ) (ls : List Literal) : Type 0 where
+  pub rises : rising n 0 ls ≡ true
 
-pub rule-says : (m : RecordRead (List Literal)) {r : RuleRead} {two : LiteralSet} {len : ℕ} → r ≡ ruleAnswer m → r ≡ RuleRead.Says two len → RuleSaid m two len
-unfolding ruleAnswer
-rule-says (says ls k) e f = record { rule = ls; said = cc; as-masks = cc }
-rule-says (fails n) e f = let z : _≡_ {A = ℕ} 0 1 = cc in absurd (omega arith)
-
--- an RL record that is whole lies within the bytes
-pub rule-size : (n : ℕ) (s : List ℕ) {ls : List Literal} {len : ℕ} → ruleAt n s ≡ says ls len → len ≤ length s
+pub rule-whole : (n : ℕ) (t : List ℕ) {ls : List Literal} {len : ℕ} → ruleAt n t ≡ says ls len → Good (LiteralsRise n) t ls len
 unfolding ruleAt ruleValues
-rule-size n s {ls} {len} e =
-    let o = checked-first-says (opened RL 3 s) (ruleValues n s) e in
-    go (leb 1 (byte s 2)) (leb (byte s 2) maxLiterals) (leb (3 + byte s 2) (length s)) (rising n 0 (map ofByte (take (byte s 2) (drop 3 s)))) refl (o .2)
+rule-whole n t {ls} {len} e =
+    let o = checked-first-says (opened RL 3 t) (ruleValues n t) e in
+    let most = check-says (leb (byte t 2) maxLiterals) 5 _ (check-says (leb 1 (byte t 2)) 5 _ (o .2) .1) in
+    let all = check-says (leb (3 + byte t 2) (length t)) 1 _ (most .1) in
+    let rise = check-says (rising n 0 lits) 6 _ (all .1) in
+    let same = says-same (rise .1) in
+    record { within = rw (same .1) (leb-true _ _ (all .0)); good = record { rises = rw (← (same .0)) (rise .0) } }
   where
     lits : List Literal
-    lits = map ofByte (take (byte s 2) (drop 3 s))
+    lits = map ofByte (take (byte t 2) (drop 3 t))
 
-    go : (a b c d : Bool) → leb (3 + byte s 2) (length s) ≡ c
-        → check a 5 (check b 5 (check c 1 (check d 6 (says lits (3 + byte s 2))))) ≡ says ls len → len ≤ length s
-    go a b c d l h =
-        let third = check-says c 1 _ (check-says b 5 _ (check-says a 5 _ h .1) .1) in
-        ends (leb-true _ _ (l ∙ third .0)) (check-says d 6 _ (third .1) .1)
-      where
-        ends : 3 + byte s 2 ≤ length s → says lits (3 + byte s 2) ≡ says ls len → len ≤ length s
-        ends w g = let same : 3 + byte s 2 ≡ len = cc in omega arith
-
-module _ (n : ℕ) (s : List ℕ) (rules from : ℕ) where
-  -- after i of the rules: those read, and their masks in the two arrays
-  pub record Stored (yes′ no′ : List ℕ) (i place : ℕ) : Type 0 where
-    pub done : List (List Literal)
-    pub walked : Walked (λ k. ruleAt n) s rules from done i place
-    pub yes-stored : yes′ ≡ padded 0 maxRules (map yesMask done)
-    pub no-stored : no′ ≡ padded 0 maxRules (map noMask done)
-
-  pub stored-none : from ≤ length s → Stored (replicate maxRules 0) (replicate maxRules 0) 0 from
-  unfolding padded
-  stored-none h = record { done = []; walked = walked-none _ _ _ _ h; yes-stored = refl; no-stored = refl }
-
-  pub stored-more : {yes′ no′ : List ℕ} {i place : ℕ} (two : LiteralSet) (len : ℕ) → Stored yes′ no′ i place → i < rules → rules ≤ maxRules → RuleSaid (ruleAt n (drop place s)) two len
-      → Stored (set yes′ i (two .yes)) (set no′ i (two .no)) (i + 1) (place + len)
-  stored-more {i = i} two len w l u r = record {
-    done = w .done ++ (r .rule ∷ []);
-    walked = walked-more _ _ _ _ (r .rule) len (w .walked) l (r .said) (rule-size n _ (r .said));
-    yes-stored = filled 0 maxRules yesMask (w .done) (r .rule) i (two .yes) (w .walked .counted) (omega arith) (ap (λ t. t .yes) (r .as-masks)) (w .yes-stored);
-    no-stored = filled 0 maxRules noMask (w .done) (r .rule) i (two .no) (w .walked .counted) (omega arith) (ap (λ t. t .no) (r .as-masks)) (w .no-stored);
-  }
+-- the rule that the code has read
+pub rule-says : (n : ℕ) (t : List ℕ) {r : RuleRead} {two : LiteralSet} {len : ℕ} → r ≡ ruleAnswer (ruleAt n t) → r ≡ RuleRead.Says two len
+    → Whole (λ ls. two ≡ masks ls) t len (ruleAt n t)
+unfolding ruleAnswer
+rule-says n t {r} {two} {len} e f = go (ruleAt n t) refl e
+  where
+    go : (m : RecordRead (List Literal)) → ruleAt n t ≡ m → r ≡ ruleAnswer m → Whole (λ ls. two ≡ masks ls) t len m
+    go (says ls k) d g =
+        let size : k ≡ len = cc in
+        record { item = ls; said = rw size refl; within = rw size at (rule-whole n t d .within); holds = cc }
+    go (fails n) d g = let z : _≡_ {A = ℕ} 0 1 = cc in absurd (omega arith)

@@ -3,9 +3,9 @@ use mathlib.Core.List.{List, [], _∷_, _++_, map}
 use Prim.Native.Nat.{ℕ, _-_}
 use lib.ListN.{length, replicate}
 use Rattle.literals.specs.Truth.{yesMask, noMask}
-use Rattle.book.specs.Limits.{maxRules, maxChoices}
-use Rattle.book.specs.Format.{Read, value, refused, Cost, OrderBook}
-use Rattle.book.specs.declared.Book.{Book}
+use Rattle.records.specs.Limits.{maxRules, maxChoices}
+use Rattle.records.specs.Format.{Read, value, refused, Cost, OrderBook}
+use Rattle.records.specs.declared.Book.{Book}
 use Rattle.book.specs.declared.Reading.{Reading}
 use Rattle.book.specs.declared.Verdict.{Verdict}
 use Rattle.book.specs.declared.Verdict.the-variants as Verdict

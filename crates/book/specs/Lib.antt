@@ -1,5 +1,3 @@
-pub mod Limits
-pub mod Format
 pub mod Answer
 pub mod Contracts
 pub mod Orders

@@ -3,7 +3,9 @@ use mathlib.Core.Path.{_≡_, refl}
 use mathlib.Core.List.{List, [], _∷_, map}
 use Prim.Native.Nat.{ℕ}
 use Rattle.literals.specs.Literal.{variable, ofByte}
-use Rattle.book.specs.Format.{Read, refused, OrderBook, marked, pair, isCost, opened, rising, headerValues, headerAt, costValues, costAt, ruleValues, ruleAt, factValues, factAt, atFact, endAt, many, factsFrom, fromRules, readBook}
+use Rattle.records.specs.Format.{Read, refused, OrderBook, marked, pair, isCost, opened, rising}
+use Rattle.records.specs.Format.{headerValues, headerAt, costValues, costAt, ruleValues, ruleAt, factValues, factAt, atFact, endAt}
+use Rattle.records.specs.Format.{many, factsFrom, fromRules, readBook}
 use Rattle.book.specs.Orders.{order-a, order-j}
 
 -- An order's bytes, and what they mean.
@@ -16,5 +18,6 @@ unfoldable pub readings : List OrderMeaning
 readings = record { bytes = order-a; meaning = refused 1 0 } ∷ record { bytes = order-j; meaning = refused 6 12 } ∷ []
 
 pub readings-agree : map (λ (r : OrderMeaning). readBook (r .bytes)) readings ≡ map (λ (r : OrderMeaning). r .meaning) readings
-unfolding readings order-a order-j readBook fromRules factsFrom many endAt atFact factAt factValues ruleAt ruleValues costAt costValues headerAt headerValues rising opened isCost pair marked variable ofByte
+unfolding readings order-a order-j readBook fromRules factsFrom many endAt atFact factAt factValues ruleAt ruleValues costAt costValues
+    headerAt headerValues rising opened isCost pair marked variable ofByte
 readings-agree = refl

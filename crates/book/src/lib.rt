@@ -1,71 +1,22 @@
-// The order book: its type with its limits, and its reader.
+// The reader of a whole book: its records in a row, and what is kept of them.
 ghost use mathlib.Core.Path.{_≡_};
 ghost use Prim.Native.Nat.{_≤_};
 ghost use lib.ListN.{length};
 ghost use mathlib.Core.List.{[]};
 ghost use Rattle.sets.specs.Sets.{width};
-ghost use Rattle.book.specs.Limits.{maxRules};
-ghost use Rattle.book.specs.Format.{readBook, fromRules};
+ghost use Rattle.records.specs.Limits.{maxRules};
+ghost use Rattle.records.specs.Format.{readBook, fromRules};
 ghost use Rattle.book.specs.Answer.{emptyBook, bookAnswer, tableAnswer};
 ghost use Rattle.book.specs.Contracts.{headerOf};
 
 mod costs;
 mod facts;
-mod header;
-mod mark;
 mod rules;
 
 use facts::FactsRead;
-use header::HeaderRead;
-
-// A book as it is kept: the counts V, U and R, the rules as two parallel arrays of masks, the given facts as two masks.
-// Bit v - 1 of a mask stands for variable v: in `yes` where the rule has the literal v, in `no` where it has -v.
-pub struct Book {
-    pub variables: usize,
-    pub choices: usize,
-    pub rules: usize,
-    pub yes: [u64; Book::MAX_RULES],
-    pub no: [u64; Book::MAX_RULES],
-    pub facts_yes: u64,
-    pub facts_no: u64,
-}
-
-// The limits of a book, and of the log that is written for it.
-impl Book {
-    pub const MAX_VARIABLES: usize = 32;
-
-    pub const MAX_CHOICES: usize = 20;
-
-    pub const MAX_RULES: usize = 128;
-
-    pub const MAX_COST: u16 = 999;
-
-    pub const MAX_LITERALS: usize = 8;
-
-    // The bytes of the longest record of a step: 7, and a literal for each choice.
-    const MAX_STEP_BYTES: usize = Book::MAX_CHOICES + 7;
-
-    // The bytes of the record that ends a log.
-    const OK_SIZE: usize = 7;
-
-    // A step for each choice, and the end.
-    pub const MAX_LOG: usize = Book::MAX_CHOICES * Book::MAX_STEP_BYTES + Book::OK_SIZE;
-
-    // The book that says nothing, which stands beside a refusal.
-    fn empty() -> Book
-        ensures { λ r. ⌜ r ≡ emptyBook ⌝ }
-    {
-        Book {
-            variables: 0,
-            choices: 0,
-            rules: 0,
-            yes: [0; Book::MAX_RULES],
-            no: [0; Book::MAX_RULES],
-            facts_yes: 0,
-            facts_no: 0,
-        }
-    }
-}
+pub use records::Book;
+use records::header;
+use records::header::HeaderRead;
 
 // Several records in a row: the place after them, or the first refusal.
 enum PlaceAfter {
@@ -85,18 +36,33 @@ pub struct Reading {
     pub book: Book,
 }
 
+// The book that says nothing, which stands beside a refusal.
+fn empty_book() -> Book
+    ensures { λ r. ⌜ r ≡ emptyBook ⌝ }
+{
+    Book {
+        variables: 0,
+        choices: 0,
+        rules: 0,
+        yes: [0; Book::MAX_RULES],
+        no: [0; Book::MAX_RULES],
+        facts_yes: 0,
+        facts_no: 0,
+    }
+}
+
 // The answer to bytes that are refused.
 fn refuse(number: u8, place: usize) -> Reading
     ensures { λ r. ⌜ r ≡ record { verdict = Verdict.Refused number place; book = emptyBook } ⌝ }
 {
     Reading {
         verdict: Verdict::Refused { number, place },
-        book: Book::empty(),
+        book: empty_book(),
     }
 }
 
 // Reads a book: the accepted book, or the refusal with its number and place.
-// Ruled out: a reader that accepts a book with a byte after EN; one that names the place of the next record.
+// Ruled out: a reader that accepts a book with a byte after EN; one that names the place of the first rule for a later one.
 pub fn read(s: &[u8]) -> Reading
     ensures { λ r. ⌜ r ≡ bookAnswer (readBook (now (s .entry))) ⌝ }
 {

@@ -1,92 +1,20 @@
-// RL: the rules, each kept as two masks.
+// The RL records in a row: the rules, each kept as two masks.
 ghost use mathlib.Core.Path.{_≡_};
-ghost use mathlib.Core.List.{map};
-ghost use Prim.Native.Nat.{_+_, _<_, _≤_};
+ghost use Prim.Native.Nat.{_≤_};
 ghost use lib.ListN.{length};
 ghost use Rattle.sets.specs.Sets.{width};
-ghost use Rattle.literals.specs.Literal.{ofByte};
-ghost use Rattle.book.specs.Limits.{maxRules};
-ghost use Rattle.book.specs.Format.{ruleAt, ruleValues, many};
-ghost use Rattle.book.specs.Contracts.{literalsAnswer, ruleAnswer, rulesAnswer};
-use crate::Book;
+ghost use Rattle.records.specs.Limits.{maxRules};
+ghost use Rattle.records.specs.Format.{ruleAt, many};
+ghost use Rattle.book.specs.Contracts.{rulesAnswer};
 use crate::PlaceAfter;
-use crate::mark;
-use crate::mark::Check;
-use literals::LiteralSet;
-
-enum LiteralsRead {
-    Says(LiteralSet),
-    Fails,
-}
-
-enum RuleRead {
-    Says { set: LiteralSet, len: usize },
-    Fails(u8),
-}
+use records::Book;
+use records::rules::RuleRead;
 
 // The rules as two parallel arrays of masks, with the place after them or the first refusal.
 pub struct RulesRead {
     pub after: PlaceAfter,
     pub yes: [u64; Book::MAX_RULES],
     pub no: [u64; Book::MAX_RULES],
-}
-
-// The literals that the bytes of a part are, over variables up to `n` that rise strictly.
-fn read_literals(s: &[u8], n: usize) -> LiteralsRead
-    requires { ⌜ n ≤ width ⌝ }
-    ensures { λ r. ⌜ r ≡ literalsAnswer n (map ofByte (now (s .entry))) ⌝ }
-{
-    let mut set = LiteralSet { yes: 0, no: 0 };
-    let mut last: usize = 0;
-    let mut i = 0;
-    while i < s.len() {
-        let l = literals::of_byte(s[i]);
-        let v = literals::variable(l) as usize;
-        if v <= last {
-            return LiteralsRead::Fails;
-        }
-        if n < v {
-            return LiteralsRead::Fails;
-        }
-        set = set.with(l);
-        last = v;
-        i += 1;
-    }
-    LiteralsRead::Says(set)
-}
-
-// The RL record at the beginning of a part, in a book of `n` variables.
-fn read_rule(s: &[u8], n: usize) -> RuleRead
-    requires { ⌜ n ≤ width ⌝ }
-    ensures { λ r. ⌜ r ≡ ruleAnswer (ruleAt n (now (s .entry))) ⌝ }
-{
-    match mark::opened(s, mark::RL, 3) {
-        Check::Fails(number) => RuleRead::Fails(number),
-        Check::Passes => rule_values(s, n),
-    }
-}
-
-// The RL record whose count is there.
-fn rule_values(s: &[u8], n: usize) -> RuleRead
-    requires { ⌜ n ≤ width ⌝ }
-    requires { ⌜ 3 ≤ length (now s) ⌝ }
-    ensures { λ r. ⌜ r ≡ ruleAnswer (ruleValues n (now (s .entry))) ⌝ }
-{
-    let count = s[2] as usize;
-    if count < 1 {
-        return RuleRead::Fails(5);
-    }
-    if count > Book::MAX_LITERALS {
-        return RuleRead::Fails(5);
-    }
-    let len = 3 + count;
-    if s.len() < len {
-        return RuleRead::Fails(1);
-    }
-    match read_literals(&s[3..len], n) {
-        LiteralsRead::Fails => RuleRead::Fails(6),
-        LiteralsRead::Says(set) => RuleRead::Says { set, len },
-    }
 }
 
 // The RL records, from a place on.
@@ -101,7 +29,7 @@ pub fn read_rules(s: &[u8], n: usize, rules: usize, from: usize) -> RulesRead
     let mut place = from;
     let mut i = 0;
     while i < rules {
-        match read_rule(&s[place..], n) {
+        match records::rules::read_rule(&s[place..], n) {
             RuleRead::Fails(number) => {
                 return RulesRead {
                     after: PlaceAfter::Refused { number, place },
