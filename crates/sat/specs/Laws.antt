@@ -2,7 +2,5 @@
 pub mod Fillings
 pub mod Rules
 pub mod Assigns
-pub mod Looks
-pub mod Scans
-pub mod Resolution
+pub mod Implied
 pub mod Searches

@@ -16,16 +16,16 @@ use Rattle.sat.proofs.+follow+force+try_variable.Lts-force as force-lts
 use Rattle.sat.proofs.try_variable.Reads as try-variable
 use Rattle.sat.proofs.try_variable.Kinds as try-variable-kinds
 use Rattle.sat.proofs.+follow+force+try_variable.Lts-try_variable as try-variable-lts
-use Rattle.sat.proofs.assign.Reads as assign-reads
-use Rattle.sat.proofs.choose.Reads as choose-reads
-use Rattle.sat.proofs.complete.Reads as complete-reads
-use Rattle.sat.proofs.handed_up.Reads as handed-up-reads
-use Rattle.sat.proofs.resolve.Reads as resolve-reads
-use Rattle.sat.proofs.scan.Reads as scan-reads
-use Rattle.sat.proofs.unset_of.Reads as unset-of-reads
-use Rattle.sets.proofs.has.Reads as has-reads
-use Rattle.sets.proofs.lowest.Reads as lowest-reads
-use Rattle.sets.proofs.union.Reads as union-reads
+use Rattle.propagation.proofs.assign.Reads.{Asked as assign?, Learnt as assign! }
+use Rattle.propagation.proofs.pass.choose.Reads.{Asked as choose?, Learnt as choose! }
+use Rattle.sat.proofs.complete.Reads.{Asked as complete?, Learnt as complete! }
+use Rattle.propagation.proofs.resolution.handed_up.Reads.{Asked as handed?, Learnt as handed! }
+use Rattle.propagation.proofs.resolution.resolve.Reads.{Asked as resolve?, Learnt as resolve! }
+use Rattle.propagation.proofs.pass.scan.Reads.{Asked as scan?, Learnt as scan! }
+use Rattle.propagation.proofs.resolution.unset_of.Reads.{Asked as unset-of?, Learnt as unset-of! }
+use Rattle.sets.proofs.has.Reads.{Asked as has?, Learnt as has! }
+use Rattle.sets.proofs.lowest.Reads.{Asked as lowest?, Learnt as lowest! }
+use Rattle.sets.proofs.union.Reads.{Asked as union?, Learnt as union! }
 use Rattle.sat.proofs.+follow+force+try_variable.{statement}
 use Rattle.sat.proofs.+follow+force+try_variable.Tie.{close}
 
@@ -62,17 +62,15 @@ try-variable-below t =
     (falls 2 try-variable-kinds.ps _<_ μ-try-variable t)
     try-variable.Pre
 
--- what the callees of `follow` ask and say
+-- what the callees ask and say: f? is what f asks, and f! what it says
 abbrev follow-claims : ℕ → follow-lts.Claims
-follow-claims t = (scan-reads.Asked, scan-reads.Learnt, force-below t, force.Post, complete-reads.Asked, complete-reads.Learnt, try-variable-below t, try-variable.Post)
+follow-claims t = (scan?, scan!, force-below t, force.Post, complete?, complete!, try-variable-below t, try-variable.Post)
 
--- what the callees of `force` ask and say
 abbrev force-claims : ℕ → force-lts.Claims
-force-claims t = (unset-of-reads.Asked, unset-of-reads.Learnt, lowest-reads.Asked, lowest-reads.Learnt, has-reads.Asked, has-reads.Learnt, assign-reads.Asked, assign-reads.Learnt, follow-below t, follow.Post, handed-up-reads.Asked, handed-up-reads.Learnt, resolve-reads.Asked, resolve-reads.Learnt)
+force-claims t = (unset-of?, unset-of!, lowest?, lowest!, has?, has!, assign?, assign!, follow-below t, follow.Post, handed?, handed!, resolve?, resolve!)
 
--- what the callees of `try-variable` ask and say
-abbrev try-variable-claims : ℕ → try-variable-lts.Claims
-try-variable-claims t = (choose-reads.Asked, choose-reads.Learnt, has-reads.Asked, has-reads.Learnt, assign-reads.Asked, assign-reads.Learnt, union-reads.Asked, union-reads.Learnt, follow-below t, follow.Post, handed-up-reads.Asked, handed-up-reads.Learnt, force-below t, force.Post)
+abbrev try-claims : ℕ → try-variable-lts.Claims
+try-claims t = (choose?, choose!, has?, has!, assign?, assign!, union?, union!, follow-below t, follow.Post, handed?, handed!, force-below t, force.Post)
 
 force-returns : (t : ℕ) → force-lts.Need-returns (force-claims t) (force-at t) force.Post
 force-returns t c =
@@ -84,7 +82,7 @@ force-returns t c =
     (c .before .handed-up .ensures)
     (c .if1 .taken)
 
-try-variable-force-requires : (t : ℕ) → try-variable-lts.Need-force-requires (try-variable-claims t) (try-variable-at t) try-variable.Post
+try-variable-force-requires : (t : ℕ) → try-variable-lts.Need-force-requires (try-claims t) (try-variable-at t) try-variable.Post
 try-variable-force-requires t c κs =
     let q = c .before .before .before .before .before in
     let v = q .before .before .before .before in
@@ -109,7 +107,7 @@ pub +follow+force+try-variable-spec : {M : Type 1} → statement M
     (λ c κs. search (needs, force-laws)) (λ c κs. search (needs, force-laws)) (λ c. search (needs, force-laws))
     (λ c. search (needs, force-laws)) (λ c κs. search (needs, force-laws)) (force-returns t)
     (λ c κs. search (needs, force-laws)) (λ c. search (needs, force-laws)) (λ c. search (needs, force-laws)))
-    (λ t. try-variable-lts.spec (try-variable-claims t) (try-variable-at t) try-variable.Post
+    (λ t. try-variable-lts.spec (try-claims t) (try-variable-at t) try-variable.Post
     (λ c κs. search (needs, try-laws)) (λ c κs. search (needs, try-laws)) (λ c κs. search (needs, try-laws))
     (λ c κs. search (needs, try-laws)) (λ c κs. search (needs, try-laws)) (λ c. search (needs, try-laws))
     (λ c. search (needs, try-laws)) (λ c κs. search (needs, try-laws)) (λ c. search (needs, try-laws))

@@ -5,7 +5,10 @@ use Rattle.sat.proofs.complete.Statement.{statement}
 use Rattle.sat.proofs.complete.Tie as tie
 
 returns : tie.Need-returns
-returns c = completes (c .before .before .before .before .args .prefer) (c .before .before .before .before .pre) (c .before .before .before .union .ensures) (c .before .before .complement .ensures) (c .before .intersection .ensures) (c .union2 .ensures)
+returns c =
+    let u = c .before .before .before in
+    completes (u .before .args .prefer) (u .before .pre) (u .union .ensures) (c .before .before .complement .ensures) (c .before .intersection .ensures)
+    (c .union2 .ensures)
 
 pub complete-spec : {M : Type 1} → statement M
 complete-spec =

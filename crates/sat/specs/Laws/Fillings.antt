@@ -5,16 +5,8 @@ use mathlib.Core.Bool.{Bool, true, false, not, true≢false, false≢true}
 use Prim.Native.Nat.{ℕ, zero, suc, _^_, _<_}
 use native.Mathlib.Decide.{ℕ-discrete}
 use native.Mathlib.Omega.{arith}
+use borrow.Author.Tests.{not-true, not-false}
 use Rattle.sat.specs.Meaning.{everyUnder, everyFilling, someFilling}
-
--- a test's value as an equation
-not-true : (b : Bool) → not b ≡ true → b ≡ false
-not-true false e = refl
-not-true true e = sym e
-
-not-false : (b : Bool) → not b ≡ false → b ≡ true
-not-false true e = refl
-not-false false e = sym e
 
 -- ---- every number below k
 
@@ -77,7 +69,3 @@ witness-some n t f h e = ap not (fails-every n (λ g. not (t g)) f h (ap not e))
 pub some-none : (n : ℕ) (t : ℕ → Bool) → someFilling n t ≡ false → (f : ℕ) → f < 2 ^ n → t f ≡ false
 unfolding someFilling
 some-none n t e f h = not-true _ (every-all n (λ g. not (t g)) (not-false _ e) f h)
-
-pub none-some : (n : ℕ) (t : ℕ → Bool) → ((f : ℕ) → f < 2 ^ n → t f ≡ false) → someFilling n t ≡ false
-unfolding someFilling
-none-some n t h = ap not (all-every n (λ g. not (t g)) (λ f l. ap not (h f l)))

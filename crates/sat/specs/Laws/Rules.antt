@@ -1,24 +1,20 @@
 -- Rules as masks and as lists of literals, and models as tests. Assumes nothing.
 use mathlib.Core.Path.{_≡_, refl, ap₂}
-use mathlib.Core.Bool.{Bool, true, false, _&&_, false≢true}
+use mathlib.Core.Logic.{_⊎_, inl, inr}
+use mathlib.Core.Bool.{Bool, true, _&&_}
 use mathlib.Core.List.{List, [], _∷_, map}
 use Prim.Native.Nat.{ℕ, zero, suc, _^_, _≤_, _<_, suc-le-suc}
 use native.Mathlib.Omega.{arith}
-use lib.IntN.{pos, negsuc}
 use lib.ListN.{length, getD}
 use lib.Pow.{pow-pos}
-use Rattle.sets.specs.Sets.{subset, disjoint, Within, Apart}
+use Rattle.sets.specs.Sets.{single, subset, disjoint, Within, Apart}
 use Rattle.sets.specs.Laws.Bits.{union-lt, single-lt}
 use Rattle.sets.specs.Laws.Subset.{subset-within, within-subset, disjoint-apart, apart-disjoint}
 use Rattle.literals.specs.Literal.{Literal, variable}
-use Rattle.literals.specs.Truth.{yesBit, noBit, yesMask, noMask, obeysMasks, allHoldMasks}
-use Rattle.literals.specs.Laws.{masks-obey}
+use Rattle.literals.specs.Truth.{yesMask, noMask, obeysMasks, allHoldMasks}
+use Rattle.literals.specs.Laws.{masks-obey, signBit, signMask, mask-none, mask-more, sign-bit, and-both}
+use Rattle.propagation.specs.Contracts.{MasksBelow}
 use Rattle.sat.specs.Meaning.{obeysRules, obeysAll, extends}
-use Rattle.sat.specs.Contracts.{MasksBelow}
-
-pub and-both : (a b : Bool) → a && b ≡ true → (a ≡ true) × (b ≡ true)
-and-both true b e = (refl, e)
-and-both false b e = absurd (false≢true e)
 
 both-and : (a b : Bool) → a ≡ true → b ≡ true → a && b ≡ true
 both-and a b p q = ap₂ (λ x y. x && y) p q
@@ -65,26 +61,18 @@ abbrev pub Of : ℕ → List Literal → Type 0
 Of n [] = Unit {0}
 Of n (l ∷ ls) = (variable l ≤ n) × Of n ls
 
-yesBit-lt : (n : ℕ) (l : Literal) → variable l ≤ n → yesBit l < 2 ^ n
-unfolding yesBit variable
-yesBit-lt n (pos zero) h = pow-pos n
-yesBit-lt n (pos (suc v)) h = single-lt n v h
-yesBit-lt n (negsuc v) h = pow-pos n
+-- their masks, of either sign
+bit-lt : (sign : Bool) (n : ℕ) (l : Literal) → variable l ≤ n → signBit sign l < 2 ^ n
+bit-lt sign n l h = go (sign-bit sign l)
+  where
+    go : (signBit sign l ≡ 0) ⊎ ((v : ℕ) × (variable l ≡ suc v) × (signBit sign l ≡ single v)) → signBit sign l < 2 ^ n
+    go (inl e) = rw e (pow-pos n)
+    go (inr w) = rw (w .2) (single-lt n (w .0) (omega (arith, w .1)))
 
-noBit-lt : (n : ℕ) (l : Literal) → variable l ≤ n → noBit l < 2 ^ n
-unfolding noBit variable
-noBit-lt n (pos v) h = pow-pos n
-noBit-lt n (negsuc v) h = single-lt n v h
-
-pub yesMask-lt : (n : ℕ) (ls : List Literal) → Of n ls → yesMask ls < 2 ^ n
-unfolding yesMask
-yesMask-lt n [] h = pow-pos n
-yesMask-lt n (l ∷ ls) h = union-lt n (yesBit l) (yesMask ls) (yesBit-lt n l (h .0)) (yesMask-lt n ls (h .1))
-
-pub noMask-lt : (n : ℕ) (ls : List Literal) → Of n ls → noMask ls < 2 ^ n
-unfolding noMask
-noMask-lt n [] h = pow-pos n
-noMask-lt n (l ∷ ls) h = union-lt n (noBit l) (noMask ls) (noBit-lt n l (h .0)) (noMask-lt n ls (h .1))
+pub mask-lt : (sign : Bool) (n : ℕ) (ls : List Literal) → Of n ls → signMask sign ls < 2 ^ n
+mask-lt sign n [] h = rw (mask-none sign) (pow-pos n)
+mask-lt sign n (l ∷ ls) h =
+    rw (mask-more sign l ls) (union-lt n (signBit sign l) (signMask sign ls) (bit-lt sign n l (h .0)) (mask-lt sign n ls (h .1)))
 
 -- ---- a partial filling extended, as a test
 

@@ -9,13 +9,17 @@ use native.Mathlib.Omega.{arith}
 use Rattle.sets.specs.Sets.{bit, has, union, inter, diff, remove, compl, Within, Lowest}
 use Rattle.sets.specs.Laws.Bits.{bit-le, bit-union, bit-inter, bit-compl, bit-compl-high, union-lt, inter-lt, compl-lt, remove-lt, member-lt}
 use Rattle.sets.specs.Laws.Subset.{within-refl, in-union}
+use Rattle.propagation.specs.Contracts.{Assigned, Forces, Chosen, PassedAll, Acting, Placed, Hands, HandedUp, Resolvent}
+use Rattle.propagation.specs.Laws.Assigns.{digit-has, assigned-other}
+use Rattle.propagation.specs.Laws.Places.{placed-acts, failed-acts, left-some, lowest-forced, none-left, some-left}
+use Rattle.propagation.specs.Laws.Resolution.{resolved-obeyed, resolved-conflicts}
+use Rattle.propagation.specs.declared.pass.Rule.{Rule}
+use Rattle.propagation.specs.declared.pass.Pass.{Pass}
+use Rattle.propagation.specs.declared.pass.Pass.the-variants as Pass
 use Rattle.sat.specs.Meaning.{Model, NoModel}
-use Rattle.sat.specs.Contracts.{Posed, Assigned, Unset, unset, Forces, Chosen, Passed, LeftByAll, Implied, Acting, Placed, Hands, HandedUp, Resolvent, Following, Forcing, Trying, Ends, Followed, PartialOf, Completes, Keeps, Searched}
-use Rattle.sat.specs.Laws.Assigns.{digit-has, assigned-other, model-assigned, assigned-model, posed-assigned, unset-less}
-use Rattle.sat.specs.Laws.Resolution.{placed-acts, failed-acts, resolved-obeyed, resolved-conflicts, left-some, lowest-forced, none-left, some-left, listed-implied, conflict-none, forced-value, met-model}
-use Rattle.sat.specs.declared.Rule.{Rule}
-use Rattle.sat.specs.declared.Pass.{Pass}
-use Rattle.sat.specs.declared.Pass.the-variants as Pass
+use Rattle.sat.specs.Contracts.{Posed, Unset, unset, Implied, Following, Forcing, Trying, Ends, Followed, PartialOf, Completes, Keeps, Searched}
+use Rattle.sat.specs.Laws.Assigns.{model-assigned, assigned-model, posed-assigned, unset-less}
+use Rattle.sat.specs.Laws.Implied.{listed-implied, conflict-none, forced-value, met-model}
 use Rattle.sat.specs.declared.Branch.{Branch}
 use Rattle.sat.specs.declared.Branch.the-variants as Branch
 use Rattle.sat.specs.declared.SearchResult.{SearchResult}
@@ -56,31 +60,31 @@ posed-partial f = record { small = f .posed .small; on-below = f .posed .on-belo
 
 module _ {n : ℕ} {ys ns : List ℕ} {on off base : ℕ} {p : Pass} where
   -- a rule is a conflict
-  pub follow-conflict : {rule : Rule} → Following n ys ns on off base → Passed (LeftByAll ys ns on off) ys ns on off p → p ≡ Pass.Conflict rule
+  pub follow-conflict : {rule : Rule} → Following n ys ns on off base → PassedAll ys ns on off p → p ≡ Pass.Conflict rule
       → Followed n ys ns on off base (Branch.Implied rule)
   follow-conflict f s e =
-      let t = subst (Passed (LeftByAll ys ns on off) ys ns on off) e s .said in
+      let t = subst (PassedAll ys ns on off) e s .said in
       record { ends = (listed-implied (f .posed) (t .0), record { place = inl (t .1) }) }
 
   -- a rule forces a variable
-  pub follow-unit : {rule : Rule} {next : ℕ} → Following n ys ns on off base → Passed (LeftByAll ys ns on off) ys ns on off p → p ≡ Pass.Unit rule next
+  pub follow-unit : {rule : Rule} {next : ℕ} → Following n ys ns on off base → PassedAll ys ns on off p → p ≡ Pass.Unit rule next
       → Forcing n ys ns on off base (rule .yes) (rule .no)
   follow-unit f s e =
-      let t = subst (Passed (LeftByAll ys ns on off) ys ns on off) e s .said in
+      let t = subst (PassedAll ys ns on off) e s .said in
       record { following = f; implied = listed-implied (f .posed) (t .0); unit = t .1 }
 
   -- each rule has a true literal
-  pub follow-model : {x m : ℕ} → Following n ys ns on off base → Passed (LeftByAll ys ns on off) ys ns on off p → p ≡ Pass.Quiet x → x ≡ 0
+  pub follow-model : {x m : ℕ} → Following n ys ns on off base → PassedAll ys ns on off p → p ≡ Pass.Quiet x → x ≡ 0
       → Completes n on off m → Followed n ys ns on off base (Branch.Model m)
   follow-model {x} {m} f s e z c =
-      let t = subst (Passed (LeftByAll ys ns on off) ys ns on off) e s .said in
+      let t = subst (PassedAll ys ns on off) e s .said in
       record { ends = met-model (t .none-met z) c }
 
   -- a variable is to be tried
-  pub follow-trying : {x : ℕ} → Following n ys ns on off base → Passed (LeftByAll ys ns on off) ys ns on off p → p ≡ Pass.Quiet x → x ≢ 0
+  pub follow-trying : {x : ℕ} → Following n ys ns on off base → PassedAll ys ns on off p → p ≡ Pass.Quiet x → x ≢ 0
       → Trying n ys ns on off base x
   follow-trying f s e z =
-      let t = subst (Passed (LeftByAll ys ns on off) ys ns on off) e s .said in
+      let t = subst (PassedAll ys ns on off) e s .said in
       record { following = f; to-try = record { opened = t .opened; some = omega arith } }
 
 -- ---- a variable set, and unset again where the branch failed: `force` and `try_variable`
@@ -142,7 +146,8 @@ module _ {n : ℕ} {ys ns : List ℕ} {on off base y m : ℕ} where
     pub force-less : {k : ℕ} → 3 * unset n on off ≡ k → 3 * unset n c d + 2 < k
     force-less q = omega (arith, unset-less {a = c} {b = d} (f .following .posed) (forced-unset (f .implied) t) s)
 
-    module _ {r : Branch} {rule : Rule} {h : Bool} (z : Followed n ys ns c d base r) (q : r ≡ Branch.Implied rule) (k : HandedUp base (rule .yes) (rule .no) on off h) where
+    module _ {r : Branch} {rule : Rule} {h : Bool} (z : Followed n ys ns c d base r) (q : r ≡ Branch.Implied rule)
+        (k : HandedUp base (rule .yes) (rule .no) on off h) where
       -- a rule that is handed up
       pub force-handed : h ≡ true → Followed n ys ns on off base (Branch.Implied rule)
       force-handed i = handed-followed (f .following .posed) (forced-unset (f .implied) t) s (f .following .base-set) z q k i
@@ -185,7 +190,8 @@ module _ {n : ℕ} {ys ns : List ℕ} {on off base x : ℕ} where
         not-off = omega (arith, c .member, c .opened .not-set .avoids v, bit-union on off v);
       }
 
-  module _ {v c d s : ℕ} {value : Bool} (f : Trying n ys ns on off base x) (u : Unset n on off v) (a : Assigned on off v value c d) (e : s ≡ union on off) where
+  module _ {v c d s : ℕ} {value : Bool} (f : Trying n ys ns on off base x) (u : Unset n on off v) (a : Assigned on off v value c d)
+      (e : s ≡ union on off) where
     all-set : Within s (union on off)
     all-set = rw e (within-refl (union on off))
 
@@ -195,7 +201,8 @@ module _ {n : ℕ} {ys ns : List ℕ} {on off base x : ℕ} where
     pub try-less : {k : ℕ} → 3 * unset n on off + 1 ≡ k → 3 * unset n c d + 2 < k
     try-less q = omega (arith, unset-less {a = c} {b = d} (f .following .posed) u a)
 
-    module _ {r : Branch} {rule : Rule} {h : Bool} (z : Followed n ys ns c d s r) (q : r ≡ Branch.Implied rule) (k : HandedUp base (rule .yes) (rule .no) on off h) where
+    module _ {r : Branch} {rule : Rule} {h : Bool} (z : Followed n ys ns c d s r) (q : r ≡ Branch.Implied rule)
+        (k : HandedUp base (rule .yes) (rule .no) on off h) where
       -- a rule that is handed up, or acted on here
       pub try-handed : h ≡ true → Followed n ys ns on off base (Branch.Implied rule)
       try-handed i = handed-followed (f .following .posed) u a all-set z q k i
