@@ -6,7 +6,8 @@ use native.Mathlib.Decide.{decLt}
 use native.Mathlib.Omega.{arith}
 use lib.ListN.{length, getD, length-append, List·getD-append}
 use lib.Seq.{getD-at}
-use Rattle.sat.specs.Contracts.{Posed, MasksBelow}
+use Rattle.propagation.specs.Contracts.{MasksBelow}
+use Rattle.sat.specs.Contracts.{Posed}
 
 masks-snoc : (n : ℕ) (ms : List ℕ) (m : ℕ) → MasksBelow n ms → m < 2 ^ n → MasksBelow n (ms ++ (m ∷ []))
 masks-snoc n ms m a h = record { below = λ i l. go i l (decLt i (length ms)) }
@@ -17,7 +18,8 @@ masks-snoc n ms m a h = record { below = λ i l. go i l (decLt i (length ms)) }
         let end : length ms ≡ i = omega (arith, length-append ms (m ∷ [])) in
         rw (getD-at ms m [] 0 i end) h
 
-pub posed-more : {n : ℕ} {ys ns : List ℕ} {on off : ℕ} (y m : ℕ) → Posed n ys ns on off → y < 2 ^ n → m < 2 ^ n → Posed n (ys ++ (y ∷ [])) (ns ++ (m ∷ [])) on off
+pub posed-more : {n : ℕ} {ys ns : List ℕ} {on off : ℕ} (y m : ℕ) → Posed n ys ns on off → y < 2 ^ n → m < 2 ^ n
+    → Posed n (ys ++ (y ∷ [])) (ns ++ (m ∷ [])) on off
 posed-more {n} {ys} {ns} y m p hy hm = record {
   small = p .small;
   paired = rw (length-append ys (y ∷ []), length-append ns (m ∷ []), p .paired) refl;

@@ -23,12 +23,8 @@ fn with_one_more(masks: &[u64], last: u64) -> [u64; MaskedProblem::RULES_AND_ONE
     ensures { λ r. ⌜ take (length (now (masks .entry)) + 1) r ≡ now (masks .entry) ++ (last ∷ []) ⌝ }
 {
     let mut all = [0u64; MaskedProblem::RULES_AND_ONE];
-    let mut i = 0;
-    while i < masks.len() {
-        all[i] = masks[i];
-        i += 1;
-    }
-    all[i] = last;
+    problem::copy_masks(masks, &mut all);
+    all[masks.len()] = last;
     all
 }
 

@@ -1,31 +1,34 @@
 -- The problem of an accepted book is proper, and the masks that the code makes of the book are those of the problem's rules.
 -- Assumes nothing.
-use mathlib.Core.Path.{_≡_, refl, sym, _∙_}
-use mathlib.Core.Logic.{by-cases}
-use mathlib.Core.Bool.{Bool, true, false, _&&_, false≢true}
+use mathlib.Core.Path.{_≡_, refl, sym, ap, _∙_}
+use mathlib.Core.Logic.{_≢_, _⊎_, inl, inr, by-cases}
+use mathlib.Core.Bool.{Bool, true, false}
 use mathlib.Core.List.{List, [], _∷_, _++_, map, append-assoc}
 use Prim.Native.Nat.{ℕ, zero, suc, _+_, _-_, _^_, _≤_, _<_}
 use native.Mathlib.Nat.{le-trans}
 use native.Mathlib.Decide.{ℕ-discrete, decLt}
 use native.Mathlib.Omega.{arith}
-use borrow.Author.Tests.{ltb-true, leb-true}
-use lib.Dec.{ltb, leb}
 use lib.Pow.{pow-mono}
 use lib.IntN.{pos, negsuc}
 use lib.ListN.{length, take, replicate, length-map, length-append, length-replicate}
 use lib.Seq.{take-at}
 use Rattle.sets.specs.Sets.{bit, single, union, full, Within, Apart}
 use Rattle.sets.specs.Laws.Subset.{within-le}
-use Rattle.sets.specs.Laws.Bits.{bit-zero, bit-le, bit-union, bit-single-other, bit-full, full-lt, member-lt}
+use Rattle.sets.specs.Laws.Bits.{bit-zero, bit-none, bit-le, bit-union, bit-single-other, bit-full, full-lt, member-lt}
 use Rattle.literals.specs.Literal.{Literal, variable}
 use Rattle.literals.specs.Truth.{yesBit, noBit, yesMask, noMask}
-use Rattle.literals.specs.Laws.{Proper}
-use Rattle.book.specs.Limits.{maxChoices, maxRules, maxCost}
-use Rattle.book.specs.Format.{OrderBook, Cost, rising}
+use Rattle.literals.specs.Laws.{Proper, signBit, signMask, mask-none, mask-more, sign-bit}
+use Rattle.records.specs.Limits.{maxChoices, maxRules, maxCost}
+use Rattle.records.specs.Format.{OrderBook, Cost, rising}
 use Rattle.book.specs.Answer.{table, row, padded}
-use Rattle.book.proofs.WellFormed.{Each, LiteralsRise, GoodCost, WellFormed}
-use Rattle.sat.specs.Contracts.{Posed, MasksBelow}
-use Rattle.sat.specs.Laws.Rules.{Of, masks-none, masks-more, yesMask-lt, noMask-lt}
+use Rattle.records.proofs.LiteralLaws.{RisingHead, rising-head}
+use Rattle.book.proofs.CostLaws.{GoodCost}
+use Rattle.book.proofs.RuleLaws.{LiteralsRise}
+use Rattle.book.proofs.ValueLaws.{Each}
+use Rattle.book.proofs.WellFormed.{WellFormed}
+use Rattle.propagation.specs.Contracts.{MasksBelow}
+use Rattle.sat.specs.Contracts.{Posed}
+use Rattle.sat.specs.Laws.Rules.{Of, masks-none, masks-more, mask-lt}
 use Rattle.problem.specs.Limits.{mostRules}
 use Rattle.problem.specs.Problem.{Problem, problemOf, given, costOf}
 use Rattle.problem.specs.Masked.{widenedTo}
@@ -33,79 +36,54 @@ use Rattle.problem.specs.Proper.{AllOf, ProperProblem}
 
 -- ---- literals that rise
 
--- the first literal of a list that rises, and the rest
-record RisingHead (n last : ℕ) (l : Literal) (ls : List Literal) : Type 0 where
-  above : last < variable l
-  upto : variable l ≤ n
-  rest : rising n (variable l) ls ≡ true
-
-first : (n last : ℕ) (l : Literal) (ls : List Literal) → rising n last (l ∷ ls) ≡ true → RisingHead n last l ls
-unfolding rising
-first n last l ls e = go (ltb last (variable l)) (leb (variable l) n) refl refl e
-  where
-    go : (a b : Bool) → ltb last (variable l) ≡ a → leb (variable l) n ≡ b → a && b && rising n (variable l) ls ≡ true → RisingHead n last l ls
-    go true true p q r = record { above = ltb-true _ _ p; upto = leb-true _ _ q; rest = r }
-    go true false p q r = absurd (false≢true r)
-    go false b p q r = absurd (false≢true r)
-
 rising-of : (n last : ℕ) (ls : List Literal) → rising n last ls ≡ true → Of n ls
 rising-of n last [] e = tt
-rising-of n last (l ∷ ls) e = let r = first n last l ls e in (r .upto, rising-of n (variable l) ls (r .rest))
+rising-of n last (l ∷ ls) e = let r = rising-head n last l ls e in (r .upto, rising-of n (variable l) ls (r .rest))
 
 rising-proper : (n last : ℕ) (ls : List Literal) → rising n last ls ≡ true → Proper ls
 rising-proper n last [] e = tt
-rising-proper n last (l ∷ ls) e = let r = first n last l ls e in (omega (arith, r .above), rising-proper n (variable l) ls (r .rest))
+rising-proper n last (l ∷ ls) e = let r = rising-head n last l ls e in (omega (arith, r .above), rising-proper n (variable l) ls (r .rest))
+
+-- a literal speaks of no other variable
+other-bit : (sign : Bool) (l : Literal) (v : ℕ) → suc v ≢ variable l → bit (signBit sign l) v ≡ 0
+other-bit sign l v n = go (sign-bit sign l)
+  where
+    go : (signBit sign l ≡ 0) ⊎ ((u : ℕ) × (variable l ≡ suc u) × (signBit sign l ≡ single u)) → bit (signBit sign l) v ≡ 0
+    go (inl e) = bit-none _ v e
+    go (inr w) = rw (w .2) (bit-single-other (w .0) v (λ q. n (ap suc q ∙ sym (w .1))))
 
 -- below the first variable the masks are empty
-low-yes : (l : Literal) (v : ℕ) → suc v < variable l → bit (yesBit l) v ≡ 0
-unfolding yesBit variable
-low-yes (pos zero) v h = bit-zero v
-low-yes (pos (suc u)) v h = bit-single-other u v (λ e. omega arith)
-low-yes (negsuc u) v h = bit-zero v
+rising-low : (sign : Bool) (n last : ℕ) (ls : List Literal) (v : ℕ) → rising n last ls ≡ true → v < last → bit (signMask sign ls) v ≡ 0
+rising-low sign n last [] v e h = bit-none _ v (mask-none sign)
+rising-low sign n last (l ∷ ls) v e h =
+    let r = rising-head n last l ls e in
+    let here = other-bit sign l v (λ q. absurd (omega (arith, r .above))) in
+    let rest = rising-low sign n (variable l) ls v (r .rest) (omega (arith, r .above)) in
+    rw (mask-more sign l ls) (bit-union (signBit sign l) (signMask sign ls) v ∙ rw (here, rest) refl)
 
-low-no : (l : Literal) (v : ℕ) → suc v < variable l → bit (noBit l) v ≡ 0
-unfolding noBit variable
-low-no (pos u) v h = bit-zero v
-low-no (negsuc u) v h = bit-single-other u v (λ e. omega arith)
-
-rising-low : (n last : ℕ) (ls : List Literal) (v : ℕ) → rising n last ls ≡ true → v < last → (bit (yesMask ls) v ≡ 0) × (bit (noMask ls) v ≡ 0)
-unfolding yesMask noMask
-rising-low n last [] v e h = (bit-zero v, bit-zero v)
-rising-low n last (l ∷ ls) v e h =
-    let r = first n last l ls e in
-    let ih = rising-low n (variable l) ls v (r .rest) (omega (arith, r .above)) in (
-      bit-union (yesBit l) (yesMask ls) v ∙ rw (low-yes l v (omega (arith, r .above)), ih .0) refl,
-      bit-union (noBit l) (noMask ls) v ∙ rw (low-no l v (omega (arith, r .above)), ih .1) refl,
-    )
-
--- one literal is not a yes and a no, and speaks of no other variable
+-- one literal is not a yes and a no
 one-sign : (l : Literal) (v : ℕ) → bit (yesBit l) v + bit (noBit l) v ≤ 1
 unfolding yesBit noBit
 one-sign (pos zero) v = omega (arith, bit-zero v)
 one-sign (pos (suc u)) v = omega (arith, bit-zero v, bit-le (single u) v)
 one-sign (negsuc u) v = omega (arith, bit-zero v, bit-le (single u) v)
 
-high-bits : (l : Literal) (v : ℕ) → variable l ≤ v → (bit (yesBit l) v ≡ 0) × (bit (noBit l) v ≡ 0)
-unfolding yesBit noBit variable
-high-bits (pos zero) v h = (bit-zero v, bit-zero v)
-high-bits (pos (suc u)) v h = (bit-single-other u v (λ e. omega arith), bit-zero v)
-high-bits (negsuc u) v h = (bit-zero v, bit-single-other u v (λ e. omega arith))
-
 rising-apart : (n last : ℕ) (ls : List Literal) → rising n last ls ≡ true → Apart (yesMask ls) (noMask ls)
 unfolding yesMask noMask
 rising-apart n last [] e = record { avoids = λ v. omega (arith, bit-zero v) }
-rising-apart n last (l ∷ ls) e = apart (first n last l ls e) (λ h. rising-apart n (variable l) ls h)
+rising-apart n last (l ∷ ls) e = apart (rising-head n last l ls e) (λ h. rising-apart n (variable l) ls h)
   where
-    apart : RisingHead n last l ls → (rising n (variable l) ls ≡ true → Apart (yesMask ls) (noMask ls)) → Apart (union (yesBit l) (yesMask ls)) (union (noBit l) (noMask ls))
+    apart : RisingHead n last l ls → (rising n (variable l) ls ≡ true → Apart (yesMask ls) (noMask ls))
+        → Apart (union (yesBit l) (yesMask ls)) (union (noBit l) (noMask ls))
     apart r ih = record { avoids = λ v. go v (decLt v (variable l)) }
       where
         go : (v : ℕ) → Dec (v < variable l) → bit (union (yesBit l) (yesMask ls)) v + bit (union (noBit l) (noMask ls)) v ≤ 1
         go v (yes h) =
-            let low = rising-low n (variable l) ls v (r .rest) h in
-            omega (arith, bit-union (yesBit l) (yesMask ls) v, bit-union (noBit l) (noMask ls) v, one-sign l v, low .0, low .1)
+            let low : (sign : Bool) → bit (signMask sign ls) v ≡ 0 = λ sign. rising-low sign n (variable l) ls v (r .rest) h in
+            omega (arith, bit-union (yesBit l) (yesMask ls) v, bit-union (noBit l) (noMask ls) v, one-sign l v, low true, low false)
         go v (no h) =
-            let high = high-bits l v (omega arith) in
-            omega (arith, bit-union (yesBit l) (yesMask ls) v, bit-union (noBit l) (noMask ls) v, high .0, high .1, ih (r .rest) .avoids v)
+            let other : (sign : Bool) → bit (signBit sign l) v ≡ 0 = λ sign. other-bit sign l v (λ q. absurd (omega arith)) in
+            omega (arith, bit-union (yesBit l) (yesMask ls) v, bit-union (noBit l) (noMask ls) v, other true, other false, ih (r .rest) .avoids v)
 
 -- a set below 2 ^ n is within the first n variables
 below-full : (n m : ℕ) → m < 2 ^ n → Within m (full n)
@@ -148,8 +126,8 @@ module _ {b : OrderBook} (w : WellFormed b) where
     rules-over = all-of _ (b .rules) (w .rules-rise);
     facts-proper = rising-proper _ 0 (b .facts) (w .facts-rise .rises);
     facts-apart = rising-apart _ 0 (b .facts) (w .facts-rise .rises);
-    yes-facts = below-full _ _ (yesMask-lt _ (b .facts) facts-of);
-    no-facts = below-full _ _ (noMask-lt _ (b .facts) facts-of);
+    yes-facts = below-full _ _ (mask-lt true _ (b .facts) facts-of);
+    no-facts = below-full _ _ (mask-lt false _ (b .facts) facts-of);
     cheap = cost-bound (b .costs) (w .costs-good) (maxChoices - length (map row (b .costs)));
   }
 
@@ -172,7 +150,8 @@ module _ {b : OrderBook} (w : WellFormed b) where
 
 -- ---- the search of a proper problem
 
-masks-below : (n : ℕ) (mask : List Literal → ℕ) → ((ls : List Literal) → Of n ls → mask ls < 2 ^ n) → (rs : List (List Literal)) → AllOf n rs → MasksBelow n (map mask rs)
+masks-below : (n : ℕ) (mask : List Literal → ℕ) → ((ls : List Literal) → Of n ls → mask ls < 2 ^ n) → (rs : List (List Literal)) → AllOf n rs
+    → MasksBelow n (map mask rs)
 masks-below n mask h [] e = masks-none n
 masks-below n mask h (r ∷ rs) e = masks-more (h r (e .0)) (masks-below n mask h rs (e .1))
 
@@ -184,8 +163,8 @@ module _ {p : Problem} (w : ProperProblem p) where
   proper-posed = record {
     small = omega (arith, w .few-variables);
     paired = length-map (p .rules) yesMask ∙ sym (length-map (p .rules) noMask);
-    yes-masks = masks-below _ yesMask (yesMask-lt _) (p .rules) (w .rules-over);
-    no-masks = masks-below _ noMask (noMask-lt _) (p .rules) (w .rules-over);
+    yes-masks = masks-below _ yesMask (mask-lt true _) (p .rules) (w .rules-over);
+    no-masks = masks-below _ noMask (mask-lt false _) (p .rules) (w .rules-over);
     on-below = within-below _ (w .yes-facts);
     off-below = within-below _ (w .no-facts);
     apart = w .facts-apart;

@@ -1,2 +1,2 @@
-mod WidenLaws
+mod CopyLaws
 pub mod BookLaws

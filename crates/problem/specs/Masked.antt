@@ -1,12 +1,16 @@
 -- A problem as the code holds it: each rule as two masks, in arrays with room for the most rules.
 use mathlib.Core.List.{List, _++_}
 use Prim.Native.Nat.{ℕ, _-_}
-use lib.ListN.{replicate}
+use lib.ListN.{length, drop, replicate}
 use Rattle.sets.specs.Sets.{full}
-use Rattle.book.specs.Limits.{maxRules}
-use Rattle.book.specs.declared.Book.{Book}
+use Rattle.records.specs.Limits.{maxRules}
+use Rattle.records.specs.declared.Book.{Book}
 use Rattle.problem.specs.Limits.{mostRules}
 use Rattle.problem.specs.declared.MaskedProblem.{MaskedProblem}
+
+-- The masks at the beginning of an array, and what stood there after them.
+abbrev pub copiedInto : List ℕ → List ℕ → List ℕ
+copiedInto masks all = masks ++ drop (length masks) all
 
 -- The masks of a book's rules, and zeros after them.
 abbrev pub widenedTo : List ℕ → List ℕ

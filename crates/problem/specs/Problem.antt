@@ -8,7 +8,7 @@ use Rattle.sets.specs.Sets.{full}
 use Rattle.literals.specs.Literal.{Literal}
 use Rattle.literals.specs.Truth.{yesMask, noMask}
 use Rattle.literals.specs.declared.LiteralSet.{LiteralSet}
-use Rattle.book.specs.Format.{OrderBook}
+use Rattle.records.specs.Format.{OrderBook}
 use Rattle.book.specs.Answer.{table}
 
 -- So many variables; the rules, each a list of literals; the set of the variables that are choices, the others are helpers (element v of the set is

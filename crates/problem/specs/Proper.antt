@@ -6,7 +6,7 @@ use Rattle.sets.specs.Sets.{Within, Apart}
 use Rattle.literals.specs.Literal.{Literal}
 use Rattle.literals.specs.Truth.{yesMask, noMask}
 use Rattle.literals.specs.Laws.{Proper}
-use Rattle.book.specs.Limits.{maxVariables, maxChoices, maxCost}
+use Rattle.records.specs.Limits.{maxVariables, maxChoices, maxCost}
 use Rattle.sat.specs.Laws.Rules.{Of}
 use Rattle.problem.specs.Limits.{mostRules}
 use Rattle.problem.specs.Problem.{Problem, costOf}

@@ -2,7 +2,8 @@
 ghost use Rattle.sets.specs.Sets.{width};
 ghost use mathlib.Core.Path.{_≡_};
 ghost use Prim.Native.Nat.{_≤_};
-ghost use Rattle.problem.specs.Masked.{widenedTo, maskedFrom};
+ghost use lib.ListN.{length};
+ghost use Rattle.problem.specs.Masked.{copiedInto, widenedTo, maskedFrom};
 use book::Book;
 use literals::LiteralSet;
 
@@ -25,16 +26,24 @@ impl MaskedProblem {
     pub const RULES_AND_ONE: usize = MaskedProblem::MAX_RULES + 1;
 }
 
+// Puts masks at the beginning of an array.
+pub fn copy_masks(masks: &[u64], all: &mut [u64])
+    requires { ⌜ length (now masks) ≤ length (now all) ⌝ }
+    ensures { λ _. ⌜ now (all .exit) ≡ copiedInto (now (masks .entry)) (now (all .entry)) ⌝ }
+{
+    let mut i = 0;
+    while i < masks.len() {
+        all[i] = masks[i];
+        i += 1;
+    }
+}
+
 // The masks of a book's rules in an array with room for the most rules.
 fn widened(masks: [u64; Book::MAX_RULES]) -> [u64; MaskedProblem::MAX_RULES]
     ensures { λ r. ⌜ r ≡ widenedTo masks ⌝ }
 {
     let mut all = [0u64; MaskedProblem::MAX_RULES];
-    let mut i = 0;
-    while i < Book::MAX_RULES {
-        all[i] = masks[i];
-        i += 1;
-    }
+    copy_masks(&masks, &mut all);
     all
 }
 

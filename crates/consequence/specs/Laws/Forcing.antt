@@ -2,18 +2,30 @@
 -- Assumes nothing.
 use mathlib.Core.Path.{_≡_, refl, sym, ap, ap₂, _∙_}
 use mathlib.Core.Bool.{Bool, true, false, not, cond, _&&_, _||_, true≢false, false≢true}
-use mathlib.Core.Logic.{_≢_}
+use mathlib.Core.Logic.{by-cases}
 use Prim.Native.Nat.{ℕ, zero, suc, _+_, _≤_, _<_, _^_}
 use native.Mathlib.Nat.{pow-suc}
 use native.Mathlib.Decide.{ℕ-discrete}
 use native.Mathlib.Omega.{arith}
+use borrow.Author.Tests.{not-true}
 use Rattle.sets.specs.Sets.{bit, has, insert}
 use Rattle.sets.specs.Laws.Bits.{bit-zero, bit-le, bit-insert-same, bit-insert-other, insert-lt, member-lt, ext-below}
 use Rattle.sets.specs.Laws.Subset.{has-true, has-false, one-has, zero-has}
-use Rattle.sat.specs.Meaning.{extends}
+use Rattle.literals.specs.Laws.{and-both}
+use Rattle.sat.specs.Meaning.{everyFilling, extends}
+use Rattle.propagation.specs.Contracts.{digit}
 use Rattle.sat.specs.Laws.Fillings.{every-all, all-every, every-fails}
-use Rattle.sat.specs.Laws.Rules.{and-both, extends-both, both-extends}
+use Rattle.sat.specs.Laws.Rules.{extends-both, both-extends}
 use Rattle.consequence.specs.Meaning.{Theory, obeying, contradicts, forcesYes, forcesNo, collect, yesForced, noForced, ModelOf, NoModelOf}
+
+-- an implication as a test
+pub implied : (a c : Bool) → not a || c ≡ true → a ≡ true → c ≡ true
+implied true c e h = e
+implied false c e h = absurd (false≢true h)
+
+pub implies : (a c : Bool) → (a ≡ true → c ≡ true) → not a || c ≡ true
+implies true c h = h refl
+implies false c h = refl
 
 module _ (p : Theory) (on off : ℕ) where
   pub obeying-model : (f : ℕ) → f < 2 ^ p .variables → obeying p on off f ≡ true → ModelOf p on off f
@@ -61,41 +73,30 @@ module _ (p : Theory) (on off : ℕ) where
       go true e = absurd (contradicts-none e .none f m)
       go false e = refl
 
-  -- ---- forcing
+  -- ---- forcing, of either value
 
-  module _ (v : ℕ) where
-    pub forces-yes : forcesYes p on off v ≡ true → (f : ℕ) → ModelOf p on off f → bit f v ≡ 1
-    unfolding forcesYes
-    forces-yes e f m = has-true f v (go (obeying p on off f) (has f v) (model-obeying f m) (every-all _ _ e f (m .below)))
-      where
-        go : (a b : Bool) → a ≡ true → not a || b ≡ true → b ≡ true
-        go true b s t = t
-        go false b s t = absurd (false≢true s)
+  -- whether a filling gives the variable the value
+  abbrev gives : Bool → ℕ → ℕ → Bool
+  gives true f v = has f v
+  gives false f v = not (has f v)
 
-    pub yes-forces : ((f : ℕ) → ModelOf p on off f → bit f v ≡ 1) → forcesYes p on off v ≡ true
-    unfolding forcesYes
-    yes-forces h = all-every _ _ (λ f l. go f l (obeying p on off f) refl)
-      where
-        go : (f : ℕ) → f < 2 ^ p .variables → (a : Bool) → obeying p on off f ≡ a → not a || has f v ≡ true
-        go f l true e = one-has f v (h f (obeying-model f l e))
-        go f l false e = refl
+  gives-digit : (value : Bool) (f v : ℕ) → gives value f v ≡ true → bit f v ≡ digit value
+  gives-digit true f v e = has-true f v e
+  gives-digit false f v e = has-false f v (not-true (has f v) e)
 
-    pub forces-no : forcesNo p on off v ≡ true → (f : ℕ) → ModelOf p on off f → bit f v ≡ 0
-    unfolding forcesNo
-    forces-no e f m = has-false f v (go (obeying p on off f) (has f v) (model-obeying f m) (every-all _ _ e f (m .below)))
-      where
-        go : (a b : Bool) → a ≡ true → not a || not b ≡ true → b ≡ false
-        go true true s t = absurd (false≢true t)
-        go true false s t = refl
-        go false b s t = absurd (false≢true s)
+  digit-gives : (value : Bool) (f v : ℕ) → bit f v ≡ digit value → gives value f v ≡ true
+  digit-gives true f v e = one-has f v e
+  digit-gives false f v e = ap not (zero-has f v e)
 
-    pub no-forces : ((f : ℕ) → ModelOf p on off f → bit f v ≡ 0) → forcesNo p on off v ≡ true
-    unfolding forcesNo
-    no-forces h = all-every _ _ (λ f l. go f l (obeying p on off f) refl)
-      where
-        go : (f : ℕ) → f < 2 ^ p .variables → (a : Bool) → obeying p on off f ≡ a → not a || not (has f v) ≡ true
-        go f l true e = rw (zero-has f v (h f (obeying-model f l e))) refl
-        go f l false e = refl
+  -- the set forces the variable to the value: `forcesYes` and `forcesNo`
+  abbrev forcesTo : Bool → ℕ → Bool
+  forcesTo value v = everyFilling (p .variables) (λ f. not (obeying p on off f) || gives value f v)
+
+  forces-digit : (value : Bool) (v : ℕ) → forcesTo value v ≡ true → (f : ℕ) → ModelOf p on off f → bit f v ≡ digit value
+  forces-digit value v e f m = gives-digit value f v (implied _ _ (every-all _ _ e f (m .below)) (model-obeying f m))
+
+  digit-forces : (value : Bool) (v : ℕ) → ((f : ℕ) → ModelOf p on off f → bit f v ≡ digit value) → forcesTo value v ≡ true
+  digit-forces value v h = all-every _ _ (λ f l. implies _ _ (λ o. digit-gives value f v (h f (obeying-model f l o))))
 
 -- ---- the set that a test collects
 
@@ -144,7 +145,8 @@ pub record Exactly (p : Theory) (on off d m : ℕ) : Type 0 where
   pub sound : (v : ℕ) → bit m v ≡ 1 → (bit (p .choices) v ≡ 1) × ((f : ℕ) → ModelOf p on off f → bit f v ≡ d)
   pub complete : (v : ℕ) → v < p .variables → bit (p .choices) v ≡ 1 → ((f : ℕ) → ModelOf p on off f → bit f v ≡ d) → bit m v ≡ 1
 
-exactly-unique : (p : Theory) (on off d m k : ℕ) → Exactly p on off d m → Exactly p on off d k → m ≡ k
+-- so there is one such mask
+pub exactly-unique : (p : Theory) (on off d m k : ℕ) → Exactly p on off d m → Exactly p on off d k → m ≡ k
 exactly-unique p on off d m k x y = ext-below (p .variables) m k (x .below) (y .below) (λ v h. go v h (ℕ-discrete (bit m v) 1) (ℕ-discrete (bit k v) 1))
   where
     go : (v : ℕ) → v < p .variables → Dec (bit m v ≡ 1) → Dec (bit k v ≡ 1) → bit m v ≡ bit k v
@@ -153,49 +155,36 @@ exactly-unique p on off d m k x y = ext-below (p .variables) m k (x .below) (y .
     go v h (no a) (no b) = omega (arith, bit-le m v, bit-le k v)
 
 module _ (p : Theory) (on off : ℕ) where
-  pub yes-exactly : Exactly p on off 1 (yesForced p on off)
-  unfolding yesForced
-  yes-exactly = record {
-    below = collect-lt _ _;
-    sound = λ v e. sound v (and-both _ _ (collect-true _ _ v e .1));
-    complete = λ v h c a. collect-in _ _ v h (rw (one-has (p .choices) v c) (yes-forces p on off v a));
-  }
+  forced-exactly : (value : Bool) → Exactly p on off (digit value) (collect (p .variables) (λ v. has (p .choices) v && forcesTo p on off value v))
+  forced-exactly value =
+      record {
+        below = collect-lt _ _;
+        sound = λ v e. sound v (and-both _ _ (collect-true _ _ v e .1));
+        complete = λ v h c a. collect-in _ _ v h (rw (one-has (p .choices) v c) (digit-forces p on off value v a));
+      }
     where
-      sound : (v : ℕ) → (has (p .choices) v ≡ true) × (forcesYes p on off v ≡ true) → (bit (p .choices) v ≡ 1) × ((f : ℕ) → ModelOf p on off f → bit f v ≡ 1)
-      sound v w = (has-true _ _ (w .0), forces-yes p on off v (w .1))
+      sound : (v : ℕ) → (has (p .choices) v ≡ true) × (forcesTo p on off value v ≡ true)
+          → (bit (p .choices) v ≡ 1) × ((f : ℕ) → ModelOf p on off f → bit f v ≡ digit value)
+      sound v w = (has-true _ _ (w .0), forces-digit p on off value v (w .1))
+
+  pub yes-exactly : Exactly p on off 1 (yesForced p on off)
+  unfolding yesForced forcesYes
+  yes-exactly = forced-exactly true
 
   pub no-exactly : Exactly p on off 0 (noForced p on off)
-  unfolding noForced
-  no-exactly = record {
-    below = collect-lt _ _;
-    sound = λ v e. sound v (and-both _ _ (collect-true _ _ v e .1));
-    complete = λ v h c a. collect-in _ _ v h (rw (one-has (p .choices) v c) (no-forces p on off v a));
-  }
-    where
-      sound : (v : ℕ) → (has (p .choices) v ≡ true) × (forcesNo p on off v ≡ true) → (bit (p .choices) v ≡ 1) × ((f : ℕ) → ModelOf p on off f → bit f v ≡ 0)
-      sound v w = (has-true _ _ (w .0), forces-no p on off v (w .1))
-
-  -- so the two masks are the only ones of which this holds
-  pub exactly-yes : (m : ℕ) → Exactly p on off 1 m → m ≡ yesForced p on off
-  exactly-yes m x = exactly-unique p on off 1 m _ x yes-exactly
-
-  pub exactly-no : (m : ℕ) → Exactly p on off 0 m → m ≡ noForced p on off
-  exactly-no m x = exactly-unique p on off 0 m _ x no-exactly
+  unfolding noForced forcesNo
+  no-exactly = forced-exactly false
 
   -- every model of a set makes all that the set forces true
   pub forced-model : (f : ℕ) → ModelOf p on off f → ModelOf p (yesForced p on off) (noForced p on off) f
-  forced-model f m =
-      record {
-        below = m .below;
-        keeps = record { keeps = λ v. yes-in v (ℕ-discrete (bit (yesForced p on off) v) 1) };
-        avoids = record { avoids = λ v. no-in v (ℕ-discrete (bit (noForced p on off) v) 1) };
-        obeyed = m .obeyed;
-      }
+  forced-model f m = record { below = m .below; keeps = record { keeps = keeps }; avoids = record { avoids = avoids }; obeyed = m .obeyed }
     where
-      yes-in : (v : ℕ) → Dec (bit (yesForced p on off) v ≡ 1) → bit (yesForced p on off) v ≤ bit f v
-      yes-in v (yes e) = omega (arith, e, yes-exactly .sound v e .1 f m)
-      yes-in v (no e) = omega (arith, bit-le (yesForced p on off) v)
+      keeps : (v : ℕ) → bit (yesForced p on off) v ≤ bit f v
+      keeps v =
+          by-cases (ℕ-discrete (bit (yesForced p on off) v) 1) (λ e. omega (arith, e, yes-exactly .sound v e .1 f m))
+          (λ e. omega (arith, bit-le (yesForced p on off) v))
 
-      no-in : (v : ℕ) → Dec (bit (noForced p on off) v ≡ 1) → bit (noForced p on off) v + bit f v ≤ 1
-      no-in v (yes e) = omega (arith, e, no-exactly .sound v e .1 f m)
-      no-in v (no e) = omega (arith, bit-le (noForced p on off) v, bit-le f v)
+      avoids : (v : ℕ) → bit (noForced p on off) v + bit f v ≤ 1
+      avoids v =
+          by-cases (ℕ-discrete (bit (noForced p on off) v) 1) (λ e. omega (arith, e, no-exactly .sound v e .1 f m))
+          (λ e. omega (arith, bit-le (noForced p on off) v, bit-le f v))

@@ -7,7 +7,7 @@ use Prim.Native.Nat.{ℕ}
 use Rattle.sets.specs.Sets.{bit}
 use Rattle.literals.specs.Truth.{yesMask, noMask}
 use Rattle.sat.specs.Meaning.{obeysAll, Model, NoModel}
-use Rattle.sat.specs.Contracts.{Assigned, digit}
+use Rattle.propagation.specs.Contracts.{Assigned, digit}
 use Rattle.sat.specs.Laws.Rules.{masks-rules}
 use Rattle.sat.specs.Laws.Assigns.{model-assigned, assigned-model}
 use Rattle.problem.specs.Problem.{Problem}
@@ -19,13 +19,19 @@ pub same-theory : (p : Problem) → maskTheory (p .variables) (map yesMask (p .r
 unfolding theoryOf
 same-theory p = λ i. record { variables = p .variables; obeyed = λ f. masks-rules f (p .rules) i; choices = p .choices }
 
--- a model of the search is one of the theory, and the other way round
+-- a model of the search is one of a theory that it obeys, and the other way round
+ruled : {t : Theory} {ys ns : List ℕ} {on off f : ℕ} → Model (t .variables) ys ns on off f → t .obeyed f ≡ true → ModelOf t on off f
+ruled m e = record { below = m .below; keeps = m .keeps; avoids = m .avoids; obeyed = e }
+
+masked : {t : Theory} {ys ns : List ℕ} {on off f : ℕ} → ModelOf t on off f → obeysAll f ys ns ≡ true → Model (t .variables) ys ns on off f
+masked m e = record { below = m .below; keeps = m .keeps; avoids = m .avoids; obeyed = e }
+
 module _ {n : ℕ} {ys ns : List ℕ} {on off : ℕ} (ch : ℕ) where
   pub to-theory : {f : ℕ} → Model n ys ns on off f → ModelOf (maskTheory n ys ns ch) on off f
-  to-theory m = record { below = m .below; keeps = m .keeps; avoids = m .avoids; obeyed = m .obeyed }
+  to-theory m = ruled m (m .obeyed)
 
   pub of-theory : {f : ℕ} → ModelOf (maskTheory n ys ns ch) on off f → Model n ys ns on off f
-  of-theory m = record { below = m .below; keeps = m .keeps; avoids = m .avoids; obeyed = m .obeyed }
+  of-theory m = masked m (m .obeyed)
 
   pub none-to-theory : NoModel n ys ns on off → NoModelOf (maskTheory n ys ns ch) on off
   none-to-theory x = record { none = λ f m. x .none f (of-theory m) }
@@ -39,10 +45,7 @@ module _ {t : Theory} {on off v a b f : ℕ} {value : Bool} (s : Assigned on off
   -- what the rules say does not matter to it
   bare : {x y : ℕ} → ModelOf t x y f → Model (t .variables) [] [] x y f
   unfolding obeysAll
-  bare m = record { below = m .below; keeps = m .keeps; avoids = m .avoids; obeyed = refl }
-
-  ruled : {x y : ℕ} → Model (t .variables) [] [] x y f → t .obeyed f ≡ true → ModelOf t x y f
-  ruled m e = record { below = m .below; keeps = m .keeps; avoids = m .avoids; obeyed = e }
+  bare m = masked m refl
 
   pub theory-assigned : ModelOf t on off f → bit f v ≡ digit value → ModelOf t a b f
   theory-assigned m e = ruled (model-assigned s (bare m) e) (m .obeyed)
