@@ -7,16 +7,17 @@ use native.Mathlib.Omega.{arith}
 use lib.ListN.{length}
 use borrow.Author.Needs.{needs}
 use Rattle.reasons.specs.Contracts.{Remaining}
-use Rattle.reasons.specs.Laws.Explores.{split-small, split-pooled, split-fits, split-with, split-with-less, split-without, split-less, explore-laws}
+use Rattle.reasons.specs.Laws.Explores.{remaining-start, remaining-done, split-small, split-pooled, split-fits}
+use Rattle.reasons.specs.Laws.Explores.{split-with, split-with-less, split-without, split-less}
 use borrow.Fn.Kinds.{In}
 use borrow.Fn.PlainCycle.{Measures, is, falls, and}
 use Rattle.reasons.proofs.explore.Reads as explore
 use Rattle.reasons.proofs.explore.Kinds as explore-kinds
 use Rattle.reasons.proofs.+explore.Lts-explore as explore-lts
-use Rattle.reasons.proofs.look_with_pool.Reads as look-with-pool-reads
-use Rattle.reasons.proofs.split_part.Reads as split-part-reads
-use Rattle.reasons.proofs.with_item.Reads as with-item-reads
-use Rattle.sets.proofs.remove.Reads as remove-reads
+use Rattle.reasons.proofs.look.look_with_pool.Reads.{Asked as look?, Learnt as look! }
+use Rattle.reasons.proofs.split.split_part.Reads.{Asked as split?, Learnt as split! }
+use Rattle.reasons.proofs.with_item.Reads.{Asked as item?, Learnt as item! }
+use Rattle.sets.proofs.remove.Reads.{Asked as remove?, Learnt as remove! }
 use Rattle.reasons.proofs.+explore.{statement}
 use Rattle.reasons.proofs.+explore.Tie.{close}
 
@@ -29,77 +30,65 @@ explore-at t = and 4 explore-kinds.ps (is 4 explore-kinds.ps μ-explore t) explo
 abbrev explore-below : ℕ → In 4 explore-kinds.ps
 explore-below t = and 4 explore-kinds.ps (falls 4 explore-kinds.ps _<_ μ-explore t) explore.Pre
 
-abbrev explore-Inv-loop : explore-lts.InvT-loop
-explore-Inv-loop n yes' no' weights pool₀ aim rest₀ now₀ pool rest now = (length pool ≡ length pool₀) × Remaining n yes' no' weights aim rest₀ (now₀ .best) pool rest now
+abbrev Inv-loop : explore-lts.InvT-loop
+Inv-loop n yes' no' weights pool₀ aim rest₀ now₀ pool rest now =
+    (length pool ≡ length pool₀) × Remaining n yes' no' weights aim rest₀ (now₀ .best) pool rest now
 
-abbrev explore-μ-loop : explore-lts.MeasureT-loop
-explore-μ-loop n yes' no' weights pool₀ aim rest₀ now₀ pool rest now = rest .limit
+abbrev μ-loop : explore-lts.MeasureT-loop
+μ-loop n yes' no' weights pool₀ aim rest₀ now₀ pool rest now = rest .limit
 
--- what the callees of `explore` ask and say
+-- what the callees ask and say: f? is what f asks, and f! what it says
 abbrev explore-claims : ℕ → explore-lts.Claims
-explore-claims t = (look-with-pool-reads.Asked, look-with-pool-reads.Learnt, split-part-reads.Asked, split-part-reads.Learnt, with-item-reads.Asked, with-item-reads.Learnt, explore-below t, explore.Post, remove-reads.Asked, remove-reads.Learnt)
-
-explore-loop-holds : (t : ℕ) → explore-lts.Need-loop-holds (explore-claims t) (explore-at t) explore.Post explore-Inv-loop explore-μ-loop
-explore-loop-holds t c = search (needs, explore-laws)
-
-explore-look-with-pool-requires : (t : ℕ) → explore-lts.Need-look-with-pool-requires (explore-claims t) (explore-at t) explore.Post explore-Inv-loop explore-μ-loop
-explore-look-with-pool-requires t c κs = search (needs, explore-laws)
-
-explore-split-part-requires : (t : ℕ) → explore-lts.Need-split-part-requires (explore-claims t) (explore-at t) explore.Post explore-Inv-loop explore-μ-loop
-explore-split-part-requires t c κs = search (needs, explore-laws)
-
-explore-enum-known-last : (t : ℕ) → explore-lts.Need-enum-known-last (explore-claims t) (explore-at t) explore.Post explore-Inv-loop explore-μ-loop
-explore-enum-known-last t c = search (needs, explore-laws)
-
-explore-same-length : (t : ℕ) → explore-lts.Need-same-length (explore-claims t) (explore-at t) explore.Post explore-Inv-loop explore-μ-loop
-explore-same-length t c = search (needs, explore-laws)
-
-explore-returns : (t : ℕ) → explore-lts.Need-returns (explore-claims t) (explore-at t) explore.Post explore-Inv-loop explore-μ-loop
-explore-returns t c = search (needs, explore-laws)
-
-explore-enum-known-limit : (t : ℕ) → explore-lts.Need-enum-known-limit (explore-claims t) (explore-at t) explore.Post explore-Inv-loop explore-μ-loop
-explore-enum-known-limit t c = search (needs, explore-laws)
-
-explore-with-item-requires : (t : ℕ) → explore-lts.Need-with-item-requires (explore-claims t) (explore-at t) explore.Post explore-Inv-loop explore-μ-loop
-explore-with-item-requires t c κs =
-    split-fits (c .before .before .before .before .before .before .before .before .before .before .before .loop .inv .1) (c .before .before .before .before .before .before .before .before .before .look-with-pool .ensures) (c .before .before .before .before .before .split-part .ensures) (c .before .limit .given .1)
-
-explore-explore-requires : (t : ℕ) → explore-lts.Need-explore-requires (explore-claims t) (explore-at t) explore.Post explore-Inv-loop explore-μ-loop
-explore-explore-requires t c κs =
-    let q = c .before .with-item .ensures in (
-      split-with-less (c .before .before .before .before .before .before .before .before .before .before .before .before .before .loop .inv .1) (c .before .before .before .before .before .before .before .before .before .before .before .look-with-pool .ensures) (c .before .before .before .before .before .before .before .split-part .ensures) (c .before .before .before .limit .given .1) q (c .before .before .before .before .before .before .before .before .before .before .before .before .before .before .before .before .before .pre .0),
-      (split-with (c .before .before .before .before .before .before .before .before .before .before .before .before .before .loop .inv .1) (c .before .before .before .before .before .before .before .before .before .before .before .look-with-pool .ensures) (c .before .before .before .before .before .before .before .split-part .ensures) (c .before .before .before .limit .given .1) q, split-pooled (c .before .before .before .before .before .before .before .before .before .before .before .before .before .loop .inv .1) (c .before .before .before .before .before .before .before .before .before .before .before .look-with-pool .ensures) (c .before .before .before .before .before .before .before .split-part .ensures) (c .before .before .before .limit .given .1)),
-    )
-
-explore-remove-requires : (t : ℕ) → explore-lts.Need-remove-requires (explore-claims t) (explore-at t) explore.Post explore-Inv-loop explore-μ-loop
-explore-remove-requires t c κs =
-    split-small (c .before .before .before .before .before .before .before .before .before .before .before .before .before .before .before .before .loop .inv .1) (c .before .before .before .before .before .before .before .before .before .before .before .before .before .before .look-with-pool .ensures) (c .before .before .before .before .before .before .before .before .before .before .split-part .ensures) (c .before .before .before .before .before .before .limit .given .1)
-
-explore-loop-less : (t : ℕ) → explore-lts.Need-loop-less (explore-claims t) (explore-at t) explore.Post explore-Inv-loop explore-μ-loop
-explore-loop-less t c =
-    split-less (c .before .before .before .before .before .before .before .before .before .before .before .before .before .before .before .before .before .loop .inv .1) (c .before .before .before .before .before .before .before .before .before .before .before .before .before .before .before .look-with-pool .ensures) (c .before .before .before .before .before .before .before .before .before .before .before .split-part .ensures) (c .before .before .before .before .before .before .before .limit .given .1) (c .remove .ensures)
-
-explore-loop-again : (t : ℕ) → explore-lts.Need-loop-again (explore-claims t) (explore-at t) explore.Post explore-Inv-loop explore-μ-loop
-explore-loop-again t c = (
-  omega (arith, c .before .before .pool3 .given, c .before .before .before .before .before .before .before .before .before .before .pool2 .given, c .before .before .before .before .before .before .before .before .before .before .before .before .before .before .pool .given, c .before .before .before .before .before .before .before .before .before .before .before .before .before .before .before .before .before .loop .inv .0),
-  split-without (c .before .before .before .before .before .before .before .before .before .before .before .before .before .before .before .before .before .loop .inv .1) (c .before .before .before .before .before .before .before .before .before .before .before .before .before .before .before .look-with-pool .ensures) (c .before .before .before .before .before .before .before .before .before .before .before .split-part .ensures) (c .before .before .before .before .before .before .before .limit .given .1) (c .before .before .before .before .before .with-item .ensures) (c .before .before .before .explore .ensures) (c .remove .ensures),
-)
+explore-claims t = (look?, look!, split?, split!, item?, item!, explore-below t, explore.Post, remove?, remove!)
 
 pub +explore-spec : {M : Type 1} → statement M
-+explore-spec = close μ-explore λ t. explore-lts.spec (explore-claims t)
-    (explore-at t)
-    explore.Post
-    explore-Inv-loop
-    explore-μ-loop
-    (explore-loop-holds t)
-    (explore-look-with-pool-requires t)
-    (explore-split-part-requires t)
-    (explore-enum-known-last t)
-    (explore-same-length t)
-    (explore-returns t)
-    (explore-enum-known-limit t)
-    (explore-with-item-requires t)
-    (explore-explore-requires t)
-    (explore-remove-requires t)
-    (explore-loop-less t)
-    (explore-loop-again t)
++explore-spec =
+    close μ-explore
+    (λ t. explore-lts.spec (explore-claims t) (explore-at t) explore.Post Inv-loop μ-loop (λ c. search (needs, remaining-start))
+    (λ c κs. let m = c .before .loop .inv .1 in (m .exploring, m .pooled))
+    (λ c κs. let k = c .before .before .before in (k .before .before .loop .inv .1 .exploring, k .look-with-pool .ensures .looked))
+    (λ c. search needs) (λ c. search needs)
+    (λ c.
+    let s = c .before .before .before .before .before in
+    let k = s .before .before .before .before in
+    remaining-done (k .before .before .loop .inv .1) (k .look-with-pool .ensures) (s .split-part .ensures) (c .before .last .given .1))
+    (λ c. search needs)
+    (λ c κs.
+    let a = c .before in
+    let s = a .before .before .before .before in
+    let k = s .before .before .before .before in
+    split-fits (k .before .before .loop .inv .1) (k .look-with-pool .ensures) (s .split-part .ensures) (a .limit .given .1))
+    (λ c κs.
+    let a = c .before .before .before in
+    let s = a .before .before .before .before in
+    let k = s .before .before .before .before in
+    let m = k .before .before .loop .inv .1 in
+    let q = c .before .with-item .ensures in (
+      split-with-less m (k .look-with-pool .ensures) (s .split-part .ensures) (a .limit .given .1) q
+          (k .before .before .before .before .before .before .pre .0),
+      (
+        split-with m (k .look-with-pool .ensures) (s .split-part .ensures) (a .limit .given .1) q,
+        split-pooled m (k .look-with-pool .ensures) (s .split-part .ensures) (a .limit .given .1),
+      ),
+    ))
+    (λ c κs.
+    let a = c .before .before .before .before .before .before in
+    let s = a .before .before .before .before in
+    let k = s .before .before .before .before in
+    split-small (k .before .before .loop .inv .1) (k .look-with-pool .ensures) (s .split-part .ensures) (a .limit .given .1))
+    (λ c.
+    let a = c .before .before .before .before .before .before .before in
+    let s = a .before .before .before .before in
+    let k = s .before .before .before .before in
+    split-less (k .before .before .loop .inv .1) (k .look-with-pool .ensures) (s .split-part .ensures) (a .limit .given .1) (c .remove .ensures))
+    (λ c.
+    let e = c .before .before .before in
+    let a = e .before .before .before .before in
+    let s = a .before .before .before .before in
+    let k = s .before .before .before .before in
+    let i = k .before .before .loop .inv in (
+      omega (arith, c .before .before .pool3 .given, a .before .before .before .pool2 .given, s .before .before .before .pool .given, i .0),
+      split-without (i .1) (k .look-with-pool .ensures) (s .split-part .ensures) (a .limit .given .1) (e .before .before .with-item .ensures)
+          (e .explore .ensures)
+          (c .remove .ensures),
+    )))
