@@ -1,35 +1,38 @@
 -- Literals as signed bytes: making one, and reading its cost. Assumes nothing.
-use Rattle.sets.specs.Sets.{width}
-use mathlib.Core.Path.{_≡_, refl, ap, _∙_}
-use mathlib.Core.Bool.{Bool, true, false, false≢true}
+use mathlib.Core.Path.{_≡_, refl, sym, ap, _∙_}
+use mathlib.Core.Bool.{Bool, true, false}
 use mathlib.Core.List.{List, []}
 use Prim.Native.Nat.{ℕ, zero, suc, _+_, _-_, _≤_, _<_}
 use native.Mathlib.Omega.{arith}
-use borrow.Author.Tests.{lt-ltb, ltb-false}
 use lib.IntN.{ℤ, pos, negsuc, _-ℤ_}
 use lib.ListN.{getD}
 use lib.Signed.{ltZ}
+use borrow.Author.Tests.{lt-ltb}
 use mir.Syntax.{w8}
 use mir.Val.{SFits, toZ, ofZ}
 use mir.Facts.{toZ-pos, toZ-ofZ}
-use Rattle.literals.specs.Literal.{variable}
-use Rattle.book.specs.Limits.{maxChoices}
+use Rattle.sets.specs.Sets.{width}
+use Rattle.literals.specs.Literal.{variable, literalOf}
+use Rattle.records.specs.Limits.{maxChoices}
+use Rattle.propagation.specs.Contracts.{digit}
 use Rattle.problem.specs.Problem.{costOf, literalCost}
-use Rattle.step.specs.Meaning.{literalOf}
 
-pub yes-cost : (table : List (List ℕ)) (l : ℤ) (r : ℕ) → r ≡ variable l → 0 < variable l → ltZ (pos 0) l ≡ true
-    → getD (getD table (r - 1) []) 0 0 ≡ literalCost table l
-unfolding variable literalCost costOf
-yes-cost table (pos zero) r e h t = absurd (omega arith)
-yes-cost table (pos (suc v)) r e h t = let i : r - 1 ≡ v = omega arith in ap (λ (x : ℕ). getD (getD table x []) 0 0) i
-yes-cost table (negsuc v) r e h t = absurd (false≢true t)
+-- the column of a sign
+abbrev pub column : Bool → ℕ
+column says = 1 - digit says
 
-pub no-cost : (table : List (List ℕ)) (l : ℤ) (r : ℕ) → r ≡ variable l → 0 < variable l → ltZ (pos 0) l ≡ false
-    → getD (getD table (r - 1) []) 1 0 ≡ literalCost table l
+-- the cost as it is read: row by variable, column by sign
+pub read-cost : (b : Bool) (table : List (List ℕ)) (l : ℤ) (r : ℕ) → r ≡ variable l → 0 < variable l → ltZ (pos 0) l ≡ b
+    → getD (getD table (r - 1) []) (column b) 0 ≡ literalCost table l
 unfolding variable literalCost costOf
-no-cost table (pos zero) r e h t = absurd (omega arith)
-no-cost table (pos (suc v)) r e h t = absurd (omega (arith, ltb-false 0 (suc v) t))
-no-cost table (negsuc v) r e h t = let i : r - 1 ≡ v = omega arith in ap (λ (x : ℕ). getD (getD table x []) 1 0) i
+read-cost b table l r e h t = ap (λ (s : Bool). getD (getD table (r - 1) []) (column s) 0) (sym t) ∙ go l e h
+  where
+    go : (l : ℤ) → r ≡ variable l → 0 < variable l → getD (getD table (r - 1) []) (column (ltZ (pos 0) l)) 0 ≡ literalCost table l
+    go (pos zero) e h = absurd (omega arith)
+    go (pos (suc v)) e h =
+        let i : r - 1 ≡ v = omega arith in
+        rw (lt-ltb 0 (suc v) (omega arith)) (ap (λ (x : ℕ). getD (getD table x []) 0 0) i)
+    go (negsuc v) e h = let i : r - 1 ≡ v = omega arith in ap (λ (x : ℕ). getD (getD table x []) 1 0) i
 
 -- ---- `literal`
 

@@ -9,18 +9,19 @@ use Rattle.items.specs.Weights.{sumBelow}
 use Rattle.items.specs.Cheapest.{Least, Minimum}
 use Rattle.items.specs.Contracts.{weightIn}
 use Rattle.literals.specs.declared.LiteralSet.{LiteralSet}
-use Rattle.reasons.specs.Contracts.{Pooled}
-use Rattle.book.specs.Limits.{maxVariables, maxChoices, maxCost}
+use Rattle.literals.specs.Literal.{literalOf}
+use Rattle.witnesses.specs.Contracts.{Pooled}
+use Rattle.records.specs.Limits.{maxVariables, maxChoices, maxCost}
 use Rattle.sat.specs.Meaning.{Model}
 use Rattle.sat.specs.Contracts.{Posed}
 use Rattle.problem.specs.Limits.{mostRules}
 use Rattle.consequence.specs.Meaning.{yesForced, noForced, NoModelOf}
 use Rattle.consequence.specs.Contracts.{maskTheory}
 use Rattle.problem.specs.Problem.{costOf, literalCost}
-use Rattle.step.specs.Meaning.{literalOf, Question, asking, goals, againstOn, againstOff, candidateCost, Answer, nothingLeft, Step, step, stepFrom}
-use Rattle.reasons.specs.declared.Aim.{Aim}
-use Rattle.reasons.specs.declared.Part.{Part}
-use Rattle.reasons.specs.declared.State.{State}
+use Rattle.step.specs.Meaning.{Question, asking, goals, againstOn, againstOff, candidateCost, Answer, nothingLeft, Step, step, stepFrom}
+use Rattle.witnesses.specs.declared.Aim.{Aim}
+use Rattle.witnesses.specs.declared.Part.{Part}
+use Rattle.witnesses.specs.declared.State.{State}
 use Rattle.step.specs.declared.Next.{Next}
 
 -- ---- costs

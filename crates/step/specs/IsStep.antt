@@ -6,8 +6,9 @@ use Prim.Native.Nat.{ℕ, _^_, _≤_, _<_}
 use Rattle.sets.specs.Sets.{bit, union, insert, Within}
 use Rattle.literals.specs.Truth.{holds}
 use Rattle.literals.specs.declared.LiteralSet.{LiteralSet}
+use Rattle.literals.specs.Literal.{literalOf}
 use Rattle.consequence.specs.Meaning.{Theory, yesForced, noForced, ModelOf, NoModelOf}
-use Rattle.step.specs.Meaning.{Question, setCost, literalOf, yesGoals, noGoals, Candidate, Step}
+use Rattle.step.specs.Meaning.{Question, setCost, yesGoals, noGoals, Candidate, Step}
 
 -- ---- what is asked
 

@@ -6,10 +6,9 @@ use mathlib.Core.List.{List, [], _∷_, _++_}
 use Prim.Native.Nat.{ℕ, zero, suc, _+_, _*_, _^_}
 use lib.Count.{trailingZeros}
 use lib.Dec.{eqb, ltb}
-use lib.IntN.{pos, negsuc}
 use Rattle.sets.specs.Sets.{bit, has, union, inter, diff, insert, subset}
 use Rattle.items.specs.Weights.{sumBelow}
-use Rattle.literals.specs.Literal.{Literal}
+use Rattle.literals.specs.Literal.{Literal, literalOf}
 use Rattle.literals.specs.declared.LiteralSet.{LiteralSet}
 use Rattle.problem.specs.Problem.{Problem, costOf}
 use Rattle.consequence.specs.Meaning.{consequenceOf, Theory, theoryOf, contradicts, yesForced, noForced}
@@ -38,11 +37,6 @@ questionOf p known = asking (theoryOf p) (p .costs) (consequenceOf p) known
 -- The cost of a set of n variables: the sum of the costs of its literals.
 unfoldable pub setCost : List (List ℕ) → ℕ → ℕ → ℕ → ℕ
 setCost table n on off = sumBelow n (λ v. bit on v * costOf table v 0 + bit off v * costOf table v 1)
-
--- The literal over variable v + 1 that says yes or no.
-abbrev pub literalOf : ℕ → Bool → Literal
-literalOf v true = pos (suc v)
-literalOf v false = negsuc v
 
 module _ (q : Question) where
   -- ---- goals

@@ -2,11 +2,12 @@
 ghost use mathlib.Core.Path.{_≡_};
 ghost use Prim.Native.Nat.{_+_, _^_, _<_, _≤_};
 ghost use Rattle.sets.specs.Sets.{Apart, width};
-ghost use Rattle.literals.specs.Literal.{variable};
-ghost use Rattle.book.specs.Limits.{maxChoices};
+ghost use Rattle.literals.specs.Literal.{variable, literalOf};
+ghost use Rattle.records.specs.Limits.{maxChoices};
 ghost use Rattle.problem.specs.Problem.{literalCost};
-ghost use Rattle.step.specs.Meaning.{literalOf, step, stepOf};
-ghost use Rattle.step.specs.Contracts.{literalWeight, itemWeight, Weighed, sumOf, maskQuestion, aimAt, whole, openGoals, Ready, ReadyWithGoal, LeastUnder, LeastFound, Reasoned, Learnt, Asked, Chosen, stepAt, nextOf};
+ghost use Rattle.step.specs.Meaning.{step, stepOf};
+ghost use Rattle.step.specs.Contracts.{literalWeight, itemWeight, Weighed, sumOf, maskQuestion, aimAt, whole, openGoals, Ready, ReadyWithGoal};
+ghost use Rattle.step.specs.Contracts.{LeastUnder, LeastFound, Reasoned, Learnt, Asked, Chosen, stepAt, nextOf};
 use book::Book;
 use consequence::Consequence;
 use literals::LiteralSet;

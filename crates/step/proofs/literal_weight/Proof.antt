@@ -1,7 +1,7 @@
 -- `step::literal_weight` meets its contract. Assumes nothing.
 use native.Mathlib.Omega.{arith}
 use Rattle.sets.specs.Laws.Bits.{single-lt}
-use Rattle.book.specs.Limits.{maxChoices}
+use Rattle.records.specs.Limits.{maxChoices}
 use borrow.Author.Needs.{needs}
 use Rattle.step.proofs.literal_weight.Statement.{statement}
 use Rattle.step.proofs.literal_weight.Tie as tie

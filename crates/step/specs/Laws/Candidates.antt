@@ -2,7 +2,8 @@
 use mathlib.Core.Path.{_≡_, refl, sym, ap, subst, _∙_}
 use mathlib.Core.Logic.{_⊎_, inl, inr}
 use mathlib.Core.Bool.{Bool, true, false, false≢true}
-use mathlib.Core.List.{List, _∷_, _++_, List·Memᴰ, List·Memᴰ·head, List·Memᴰ·tail, List·Memᴰ·not-nil, List·Memᴰ·cases-cons, List·Memᴰ·append-cases, Memᴰ·append-left, Memᴰ·append-right}
+use mathlib.Core.List.{List, _∷_, _++_, List·Memᴰ, List·Memᴰ·head, List·Memᴰ·tail, List·Memᴰ·not-nil, List·Memᴰ·cases-cons, List·Memᴰ·append-cases}
+use mathlib.Core.List.{Memᴰ·append-left, Memᴰ·append-right}
 use Prim.Native.Nat.{ℕ, zero, suc, _^_, _<_}
 use native.Mathlib.Decide.{ℕ-discrete}
 use native.Mathlib.Omega.{arith}
@@ -10,7 +11,8 @@ use Rattle.sets.specs.Sets.{has, union, subset}
 use Rattle.sets.specs.Laws.Bits.{member-lt}
 use Rattle.sets.specs.Laws.Subset.{has-true, one-has, subset-within, within-subset, within-le}
 use Rattle.consequence.specs.Laws.Forcing.{contradicts-none, none-contradicts}
-use Rattle.step.specs.Meaning.{Question, goals, againstOn, againstOff, refutes, isCandidate, Candidate, firstOf, candidate, candidatesFor, candidatesBelow, candidates, allKnown, theStep}
+use Rattle.step.specs.Meaning.{Question, goals, againstOn, againstOff, refutes, isCandidate, Candidate, firstOf, candidate, candidatesFor}
+use Rattle.step.specs.Meaning.{candidatesBelow, candidates, allKnown, theStep}
 use Rattle.step.specs.IsStep.{Upto}
 use Rattle.step.specs.Contracts.{Picks}
 use Rattle.step.specs.Laws.Order.{FirstIn, first-in}
@@ -109,7 +111,8 @@ module _ (q : Question) where
       go : (b : Bool) → has (goals q) k ≡ b → Dec (v ≡ k) → (v < k → List·Memᴰ (candidate q v s) (candidatesBelow q k))
           → List·Memᴰ (candidate q v s) (elim b [ true ↦ all ++ candidatesBelow q k | false ↦ candidatesBelow q k ])
       go true d (yes p) ih =
-          Memᴰ·append-left (candidatesBelow q k) (subst (λ (x : ℕ). List·Memᴰ (candidate q v s) (candidatesFor q x (2 ^ q .theory .variables))) p (for-complete v _ s l e))
+          Memᴰ·append-left (candidatesBelow q k) (subst (λ (x : ℕ). List·Memᴰ (candidate q v s) (candidatesFor q x (2 ^ q .theory .variables))) p
+          (for-complete v _ s l e))
       go true d (no p) ih = Memᴰ·append-right all (ih (omega arith))
       go false d (yes p) ih = absurd (false≢true (sym d ∙ ap (has (goals q)) (sym p) ∙ g))
       go false d (no p) ih = ih (omega arith)

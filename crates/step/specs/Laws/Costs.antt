@@ -1,87 +1,72 @@
--- What sets of known literals cost, and what they weigh in a key. Assumes nothing.
+-- What sets of literals cost, and what known ones weigh in a key. Assumes nothing.
 use mathlib.Core.Path.{_≡_, refl, sym, ap, ap₂, _∙_}
 use mathlib.Core.Logic.{by-cases}
-use mathlib.Core.Bool.{Bool, true, false}
+use mathlib.Core.Bool.{Bool, true, false, not}
 use mathlib.Core.List.{List}
-use Prim.Native.Nat.{ℕ, zero, suc, _+_, _*_, _^_, _≤_, _<_, min}
+use Prim.Native.Nat.{ℕ, zero, suc, _+_, _*_, _^_, _≤_, _<_, min, max}
 use native.Mathlib.Decide.{ℕ-discrete}
 use native.Mathlib.Numerals.{add-one}
 use native.Mathlib.Omega.{arith}
 use lib.ListN.{length, set, length-set}
 use lib.Seq.{getD-set-same, getD-set-other}
 use Rattle.sets.specs.Sets.{bit, has, union, inter, insert, Within, Apart}
-use Rattle.sets.specs.Laws.Bits.{bit-le, bit-union, bit-inter, bit-insert-same, bit-insert-other}
-use Rattle.sets.specs.Laws.Subset.{has-true, has-false}
+use Rattle.sets.specs.Laws.Bits.{bit-le, bit-union, bit-inter}
+use Rattle.sets.specs.Laws.Subset.{has-true, has-false, within-refl, within-insert}
 use Rattle.items.specs.Weights.{sumBelow, total}
 use Rattle.items.specs.Contracts.{weightIn}
-use Rattle.items.specs.Laws.Sums.{sum-same, sum-add, sum-bound, sum-one, sum-part, digits-sum}
-use Rattle.book.specs.Limits.{maxChoices}
+use Rattle.items.specs.Laws.Sums.{sum-same, sum-add, sum-bound, sum-part, digits-sum, total-le, total-insert}
+use Rattle.literals.specs.Literal.{literalOf}
+use Rattle.records.specs.Limits.{maxChoices}
 use Rattle.problem.specs.Problem.{costOf, literalCost}
-use Rattle.step.specs.Meaning.{setCost, literalOf}
+use Rattle.step.specs.Meaning.{setCost}
+use Rattle.step.specs.IsStep.{oppositeOn, oppositeOff}
 use Rattle.step.specs.Contracts.{knownCost, costUnit, literalWeight, itemWeight, Weighed, sumOf}
 
--- ---- digits times costs
+-- ---- the cost of a set
 
--- the elements of d among those of a and b
+-- at one variable: the elements of d among those of a and b
 share : (d a b x y : ℕ) → d ≤ 1 → a ≤ 1 → b ≤ 1 → min d a * x + min d b * y ≡ d * (a * x + b * y)
-share zero a b x y h l k = omega (arith, ap (λ (z : ℕ). z * x) none, ap (λ (z : ℕ). z * y) other)
-  where
-    none : min 0 a ≡ 0
-    none = omega arith
-
-    other : min 0 b ≡ 0
-    other = omega arith
-share (suc zero) a b x y h l k = omega (arith, ap (λ (z : ℕ). z * x) all, ap (λ (z : ℕ). z * y) others)
-  where
-    all : min 1 a ≡ a
-    all = omega arith
-
-    others : min 1 b ≡ b
-    others = omega arith
+share zero a b x y h l k = let e : min 0 a ≡ 0 = omega arith in let o : min 0 b ≡ 0 = omega arith in rw (e, o) (omega arith)
+share (suc zero) a b x y h l k = let e : min 1 a ≡ a = omega arith in let o : min 1 b ≡ b = omega arith in rw (e, o) (omega arith)
 share (suc (suc d)) a b x y h l k = absurd (omega arith)
 
--- ---- the cost of reasons with a goal's opposite
+-- reasons cost what their literals cost
+pub reasons-cost : (table : List (List ℕ)) (n on off s : ℕ) → setCost table n (inter s on) (inter s off) ≡ total (knownCost table on off) n s
+unfolding setCost total knownCost
+reasons-cost table n on off s =
+    sum-same n _ _ (λ u h.
+    ap₂ (λ (x : ℕ) (y : ℕ). x * costOf table u 0 + y * costOf table u 1) (bit-inter s on u) (bit-inter s off u)
+    ∙ share (bit s u) (bit on u) (bit off u) (costOf table u 0) (costOf table u 1) (bit-le s u) (bit-le on u) (bit-le off u))
 
--- the literal of the pair of masks at one variable
-abbrev at : List (List ℕ) → ℕ → ℕ → ℕ → ℕ
-at table on off u = bit on u * costOf table u 0 + bit off u * costOf table u 1
+-- the costs of what it says yes of, and of what it says no of
+pub cost-parts : (table : List (List ℕ)) (n on off : ℕ)
+    → setCost table n on off ≡ total (λ v. costOf table v 0) n on + total (λ v. costOf table v 1) n off
+unfolding setCost total
+cost-parts table n on off = sum-add n (λ v. bit on v * costOf table v 0) (λ v. bit off v * costOf table v 1)
 
-module _ (table : List (List ℕ)) (on off : ℕ) where
-  -- reasons alone, at one variable
-  reasons-at : (s u : ℕ) → at table (inter s on) (inter s off) u ≡ bit s u * knownCost table on off u
-  unfolding knownCost
-  reasons-at s u =
-      ap₂ (λ (x : ℕ) (y : ℕ). x * costOf table u 0 + y * costOf table u 1) (bit-inter s on u) (bit-inter s off u)
-      ∙ share (bit s u) (bit on u) (bit off u) (costOf table u 0) (costOf table u 1) (bit-le s u) (bit-le on u) (bit-le off u)
+-- an item more adds at most its weight
+total-most : (w : ℕ → ℕ) (n s v : ℕ) → v < n → total w n (insert s v) ≤ total w n s + w v
+total-most w n s v h =
+    by-cases (ℕ-discrete (bit s v) 0) (λ e. omega (arith, total-insert w n s v h e))
+    (λ e. omega (arith, total-le w n (insert s v) s (within-insert s v s (within-refl s) (omega (arith, bit-le s v)))))
 
-  module _ (n s v : ℕ) (h : v < n) where
-    -- the opposite of a goal that says no
-    pub cost-with-yes : bit on v ≡ 0 → setCost table n (insert (inter s on) v) (inter s off) ≡ total (knownCost table on off) n s + costOf table v 0
-    unfolding setCost total
-    cost-with-yes e =
-        let out : bit (inter s on) v ≡ 0 = omega (arith, bit-inter s on v, bit-le s v) in
-        sum-one n _ _ v (costOf table v 0) h
-        (omega (
-          arith,
-          reasons-at s v,
-          ap (λ (x : ℕ). x * costOf table v 0) (bit-insert-same (inter s on) v),
-          ap (λ (x : ℕ). x * costOf table v 0) out,
-        ))
-        (λ u d. ap (λ (x : ℕ). x * costOf table u 0 + bit (inter s off) u * costOf table u 1) (bit-insert-other (inter s on) v u d) ∙ reasons-at s u)
+-- ---- with the opposite of a literal
 
-    -- the opposite of a goal that says yes
-    pub cost-with-no : bit off v ≡ 0 → setCost table n (inter s on) (insert (inter s off) v) ≡ total (knownCost table on off) n s + costOf table v 1
-    unfolding setCost total
-    cost-with-no e =
-        let out : bit (inter s off) v ≡ 0 = omega (arith, bit-inter s off v, bit-le s v) in
-        sum-one n _ _ v (costOf table v 1) h
-        (omega (
-          arith,
-          reasons-at s v,
-          ap (λ (x : ℕ). x * costOf table v 1) (bit-insert-same (inter s off) v),
-          ap (λ (x : ℕ). x * costOf table v 1) out,
-        ))
-        (λ u d. ap (λ (x : ℕ). bit (inter s on) u * costOf table u 0 + x * costOf table u 1) (bit-insert-other (inter s off) v u d) ∙ reasons-at s u)
+module _ (table : List (List ℕ)) (n on off v : ℕ) (h : v < n) where
+  -- it adds its cost to a set that says nothing of its variable, and to any set at most its cost
+  pub opposite-cost : bit on v ≡ 0 → bit off v ≡ 0 → (says : Bool)
+      → setCost table n (oppositeOn says on v) (oppositeOff says off v) ≡ literalCost table (literalOf v (not says)) + setCost table n on off
+  unfolding literalCost
+  opposite-cost p q true =
+      omega (arith, cost-parts table n on (insert off v), cost-parts table n on off, total-insert (λ u. costOf table u 1) n off v h q)
+  opposite-cost p q false =
+      omega (arith, cost-parts table n (insert on v) off, cost-parts table n on off, total-insert (λ u. costOf table u 0) n on v h p)
+
+  pub opposite-most : (says : Bool)
+      → setCost table n (oppositeOn says on v) (oppositeOff says off v) ≤ literalCost table (literalOf v (not says)) + setCost table n on off
+  unfolding literalCost
+  opposite-most true = omega (arith, cost-parts table n on (insert off v), cost-parts table n on off, total-most (λ u. costOf table u 1) n off v h)
+  opposite-most false = omega (arith, cost-parts table n (insert on v) off, cost-parts table n on off, total-most (λ u. costOf table u 0) n on v h)
 
 -- at most one of two costs
 pub one-cost : (k x y c d : ℕ) → x + y ≤ 1 → c ≤ k → d ≤ k → x * c + y * d ≤ k
@@ -148,31 +133,25 @@ module _ {table : List (List ℕ)} {on off : ℕ} where
 
 -- the known literal is one that says yes, or one that says no, or there is none
 module _ (table : List (List ℕ)) (on off v : ℕ) where
+  weight-at : (a b : ℕ) → bit on v ≡ a → bit off v ≡ b
+      → itemWeight table on off v ≡ (a * costOf table v 0 + b * costOf table v 1) * costUnit + max a b * 2 ^ v
+  unfolding itemWeight knownCost
+  weight-at a b p q = rw (bit-union on off v, p, q) refl
+
   pub weight-yes : {r : ℕ} {b : Bool} → Apart on off → b ≡ has on v → b ≡ true → r ≡ literalWeight (literalCost table (literalOf v true)) v
       → r ≡ itemWeight table on off v
-  unfolding itemWeight knownCost literalCost
+  unfolding literalCost
   weight-yes p e t q =
-      let one : bit on v ≡ 1 = has-true on v (sym e ∙ t) in
-      let zer : bit off v ≡ 0 = omega (arith, p .avoids v) in
-      let all : bit (union on off) v ≡ 1 = omega (arith, bit-union on off v) in
-      omega (arith, ap (λ (x : ℕ). x * costOf table v 0) one, ap (λ (x : ℕ). x * costOf table v 1) zer, ap (λ (x : ℕ). x * 2 ^ v) all)
+      let one = has-true on v (sym e ∙ t) in
+      omega (arith, weight-at 1 0 one (omega (arith, p .avoids v)))
 
-  pub weight-no : {r : ℕ} {b c : Bool} → b ≡ has on v → b ≡ false → c ≡ has off v → c ≡ true → r ≡ literalWeight (literalCost table (literalOf v false)) v
-      → r ≡ itemWeight table on off v
-  unfolding itemWeight knownCost literalCost
-  weight-no e t d s q =
-      let zer : bit on v ≡ 0 = has-false on v (sym e ∙ t) in
-      let one : bit off v ≡ 1 = has-true off v (sym d ∙ s) in
-      let all : bit (union on off) v ≡ 1 = omega (arith, bit-union on off v) in
-      omega (arith, ap (λ (x : ℕ). x * costOf table v 0) zer, ap (λ (x : ℕ). x * costOf table v 1) one, ap (λ (x : ℕ). x * 2 ^ v) all)
+  pub weight-no : {r : ℕ} {b c : Bool} → b ≡ has on v → b ≡ false → c ≡ has off v → c ≡ true
+      → r ≡ literalWeight (literalCost table (literalOf v false)) v → r ≡ itemWeight table on off v
+  unfolding literalCost
+  weight-no e t d s q = omega (arith, weight-at 0 1 (has-false on v (sym e ∙ t)) (has-true off v (sym d ∙ s)))
 
   pub weight-none : {b c : Bool} → b ≡ has on v → b ≡ false → c ≡ has off v → c ≡ false → 0 ≡ itemWeight table on off v
-  unfolding itemWeight knownCost
-  weight-none e t d s =
-      let zer : bit on v ≡ 0 = has-false on v (sym e ∙ t) in
-      let none : bit off v ≡ 0 = has-false off v (sym d ∙ s) in
-      let all : bit (union on off) v ≡ 0 = omega (arith, bit-union on off v) in
-      omega (arith, ap (λ (x : ℕ). x * costOf table v 0) zer, ap (λ (x : ℕ). x * costOf table v 1) none, ap (λ (x : ℕ). x * 2 ^ v) all)
+  weight-none e t d s = omega (arith, weight-at 0 0 (has-false on v (sym e ∙ t)) (has-false off v (sym d ∙ s)))
 
 -- ---- `sum`
 

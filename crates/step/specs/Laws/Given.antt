@@ -1,13 +1,14 @@
 -- What the given facts force over a theory, and the known sets between them and it. Assumes nothing.
 use mathlib.Core.Path.{_≡_}
-use mathlib.Core.Bool.{false}
+use mathlib.Core.Bool.{Bool, true, false, cond}
 use mathlib.Core.List.{List}
-use Prim.Native.Nat.{ℕ, _^_, _≤_, _<_}
-use native.Mathlib.Decide.{ℕ-discrete}
+use Prim.Native.Nat.{ℕ, _^_, _<_}
 use native.Mathlib.Omega.{arith}
 use Rattle.sets.specs.Sets.{bit, Within, Apart}
 use Rattle.sets.specs.Laws.Bits.{bit-le, member-lt}
+use Rattle.sets.specs.Laws.Subset.{within-refl, within-by}
 use Rattle.literals.specs.declared.LiteralSet.{LiteralSet}
+use Rattle.propagation.specs.Contracts.{digit}
 use Rattle.consequence.specs.Meaning.{Theory, contradicts, ModelOf}
 use Rattle.consequence.specs.Laws.Forcing.{Exactly, yes-exactly, no-exactly, forced-model, contradicts-not}
 use Rattle.step.specs.Meaning.{asking}
@@ -24,6 +25,8 @@ module _ {t : Theory} {on off more-on more-off : ℕ} where
         obeyed = m .obeyed;
       }
 
+-- ---- what the given facts force
+
 module _ {t : Theory} {c facts : LiteralSet} (fc : ForcedBy t c facts) where
   -- every model of the given facts makes all of the consequence true
   pub consequence-model : (f : ℕ) → ModelOf t (facts .yes) (facts .no) f → ModelOf t (c .yes) (c .no) f
@@ -34,47 +37,30 @@ module _ {t : Theory} {c facts : LiteralSet} (fc : ForcedBy t c facts) where
   known-forces b f m = consequence-model f (model-fewer (b .facts-yes) (b .facts-no) f m)
 
 module _ {t : Theory} (below : t .choices < 2 ^ t .variables) {c facts : LiteralSet} (fc : ForcedBy t c facts) where
-  pub yes-exact : Exactly t (facts .yes) (facts .no) 1 (c .yes)
-  yes-exact = rw (fc .yes-forced) (yes-exactly t (facts .yes) (facts .no))
+  -- what it says of one sign: exactly the choices that have its digit in every model
+  pub exact : (says : Bool) → Exactly t (facts .yes) (facts .no) (digit says) (cond says (c .yes) (c .no))
+  exact true = rw (fc .yes-forced) (yes-exactly t (facts .yes) (facts .no))
+  exact false = rw (fc .no-forced) (no-exactly t (facts .yes) (facts .no))
 
-  pub no-exact : Exactly t (facts .yes) (facts .no) 0 (c .no)
-  no-exact = rw (fc .no-forced) (no-exactly t (facts .yes) (facts .no))
-
-  within-choices : (d m : ℕ) → Exactly t (facts .yes) (facts .no) d m → Within m (t .choices)
-  within-choices d m x = record { keeps = λ v. go v (ℕ-discrete (bit m v) 1) }
-    where
-      go : (v : ℕ) → Dec (bit m v ≡ 1) → bit m v ≤ bit (t .choices) v
-      go v (yes e) = omega (arith, e, x .sound v e .0)
-      go v (no e) = omega (arith, bit-le m v)
-
-  pub yes-choices : Within (c .yes) (t .choices)
-  yes-choices = within-choices 1 _ yes-exact
-
-  pub no-choices : Within (c .no) (t .choices)
-  no-choices = within-choices 0 _ no-exact
-
-  pub yes-below : c .yes < 2 ^ t .variables
-  yes-below = yes-exact .below
-
-  pub no-below : c .no < 2 ^ t .variables
-  no-below = no-exact .below
+  pub over-choices : (says : Bool) → Within (cond says (c .yes) (c .no)) (t .choices)
+  over-choices says = within-by _ _ (λ v e. exact says .sound v e .0)
 
   -- a given fact over a choice is forced: it has its digit in every model
-  given-within : (d m con : ℕ) → Exactly t (facts .yes) (facts .no) d con → ((v f : ℕ) → bit m v ≡ 1 → ModelOf t (facts .yes) (facts .no) f → bit f v ≡ d)
-      → Within m (t .choices) → Within m con
-  given-within d m con x has-digit w = record { keeps = λ v. go v (ℕ-discrete (bit m v) 1) }
-    where
-      go : (v : ℕ) → Dec (bit m v ≡ 1) → bit m v ≤ bit con v
-      go v (yes e) =
-          let o : bit (t .choices) v ≡ 1 = omega (arith, e, w .keeps v, bit-le (t .choices) v) in
-          omega (arith, e, x .complete v (member-lt _ (t .choices) v o below) o (λ f k. has-digit v f e k))
-      go v (no e) = omega (arith, bit-le m v)
+  fact-digit : (says : Bool) (v f : ℕ) → bit (cond says (facts .yes) (facts .no)) v ≡ 1 → ModelOf t (facts .yes) (facts .no) f → bit f v ≡ digit says
+  fact-digit true v f e m = omega (arith, e, m .keeps .keeps v, bit-le f v)
+  fact-digit false v f e m = omega (arith, e, m .avoids .avoids v)
 
-  pub yes-given : Within (facts .yes) (t .choices) → Within (facts .yes) (c .yes)
-  yes-given = given-within 1 _ _ yes-exact (λ v f e m. omega (arith, e, m .keeps .keeps v, bit-le f v))
+  pub given-forced : (says : Bool) → Within (cond says (facts .yes) (facts .no)) (t .choices)
+      → Within (cond says (facts .yes) (facts .no)) (cond says (c .yes) (c .no))
+  given-forced says w =
+      within-by _ _ (λ v e.
+      let o : bit (t .choices) v ≡ 1 = omega (arith, e, w .keeps v, bit-le (t .choices) v) in
+      exact says .complete v (member-lt _ (t .choices) v o below) o (λ f m. fact-digit says v f e m))
 
-  pub no-given : Within (facts .no) (t .choices) → Within (facts .no) (c .no)
-  no-given = given-within 0 _ _ no-exact (λ v f e m. omega (arith, e, m .avoids .avoids v))
+  -- so given facts over choices lie between themselves and what they force
+  pub given-between : Within (facts .yes) (t .choices) → Within (facts .no) (t .choices) → Between facts facts c
+  given-between y n =
+      record { facts-yes = within-refl _; facts-no = within-refl _; known-yes = given-forced true y; known-no = given-forced false n }
 
   -- where the given facts do not contradict the rules
   module _ (some : contradicts t (facts .yes) (facts .no) ≡ false) where
@@ -91,8 +77,8 @@ module _ {t : Theory} (below : t .choices < 2 ^ t .variables) {c facts : Literal
     between-sound table b =
         record {
           choices-below = below;
-          on-choices = yes-choices;
-          off-choices = no-choices;
+          on-choices = over-choices true;
+          off-choices = over-choices false;
           known-on = b .known-yes;
           known-off = b .known-no;
           model = consequence-has;

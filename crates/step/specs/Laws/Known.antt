@@ -7,15 +7,16 @@ use native.Mathlib.Omega.{arith}
 use borrow.Author.Tests.{not-true}
 use Rattle.sets.specs.Sets.{bit, has, union, inter, diff, insert, Within, Apart}
 use Rattle.sets.specs.Laws.Bits.{bit-le, bit-union, bit-diff, bit-inter, ext}
-use Rattle.sets.specs.Laws.Subset.{one-has, zero-has, has-true, has-false, within-refl}
+use Rattle.sets.specs.Laws.Subset.{one-has, zero-has, has-true, has-false, within-refl, apart-symm, apart-within}
 use Rattle.consequence.specs.Meaning.{ModelOf, NoModelOf}
 use Rattle.consequence.specs.Laws.Masks.{assigned-theory}
+use Rattle.witnesses.specs.Laws.Questions.{opposite}
 use Rattle.step.specs.Meaning.{Question, yesGoals, noGoals, goals, reasonsOn, reasonsOff, againstOn, againstOff, candidateCost}
 use Rattle.step.specs.IsStep.{oppositeOn, oppositeOff, Goal, Candidature, placed}
 use Rattle.step.specs.Contracts.{Picks}
-use Rattle.reasons.specs.Laws.Explores.{opposite}
 
-pub cond-not : (a : Bool) (x y : ℕ) → cond (not a) x y ≡ cond a y x
+-- a test the other way round
+pub cond-not : {A : Type 0} (a : Bool) (x y : A) → cond (not a) x y ≡ cond a y x
 cond-not true x y = refl
 cond-not false x y = refl
 
@@ -33,6 +34,18 @@ sign-of on off a b v h e = go (has (diff on a) v) refl
         one-has (diff off b) v
         (omega (arith, e, has-false (diff on a) v p, bit-union (diff on a) (diff off b) v, bit-le (diff off b) v))
 
+-- its variable is not known
+pub open-unknown : {on off a b : ℕ} (v : ℕ) → Within a on → Within b off → Apart on off → bit (union (diff on a) (diff off b)) v ≡ 1
+    → (bit a v ≡ 0) × (bit b v ≡ 0)
+open-unknown {on} {off} {a} {b} v x y p e =
+    let d = open-at on off a b v in
+    (omega (arith, x .keeps v, y .keeps v, p .avoids v), omega (arith, x .keeps v, y .keeps v, p .avoids v))
+
+-- of a set in two parts, what lies in one of two sets that are apart
+part-of : (s a b k l : ℕ) → ((v : ℕ) → bit s v ≡ max (bit a v) (bit b v)) → Within a k → Within b l → Apart k l → inter s k ≡ a
+part-of s a b k l both x y p =
+    ext _ _ (λ v. omega (arith, bit-inter s k v, both v, x .keeps v, y .keeps v, p .avoids v, bit-le a v, bit-le b v))
+
 module _ (q : Question) where
   -- a goal is a literal of the consequence that is not known
   pub goals-at : (v : ℕ) → bit (goals q) v ≡ max (bit (q .con-on) v - bit (q .known-on) v) (bit (q .con-off) v - bit (q .known-off) v)
@@ -47,8 +60,8 @@ pub record Forcing (q : Question) : Type 0 where
   pub forces : (f : ℕ) → ModelOf (q .theory) (q .known-on) (q .known-off) f → ModelOf (q .theory) (q .con-on) (q .con-off) f
 
 module _ (q : Question) (z : Forcing q) where
-  known-apart : (v : ℕ) → bit (q .known-on) v + bit (q .known-off) v ≤ 1
-  known-apart v = omega (arith, z .apart .avoids v, z .known-on .keeps v, z .known-off .keeps v)
+  known-apart : Apart (q .known-on) (q .known-off)
+  known-apart = apart-within (z .known-on) (z .known-off) (z .apart)
 
   pub signed : (v : ℕ) → bit (goals q) v ≡ 1 → has (noGoals q) v ≡ not (has (yesGoals q) v)
   unfolding goals yesGoals noGoals
@@ -81,13 +94,11 @@ module _ (q : Question) (z : Forcing q) where
   -- the variables of a set of known literals stand for it
   union-on : (a b : ℕ) → Within a (q .known-on) → Within b (q .known-off) → reasonsOn q (union a b) ≡ a
   unfolding reasonsOn
-  union-on a b x y =
-      ext _ _ (λ v. omega (arith, bit-inter (union a b) (q .known-on) v, bit-union a b v, x .keeps v, y .keeps v, known-apart v, bit-le a v, bit-le b v))
+  union-on a b x y = part-of (union a b) a b _ _ (bit-union a b) x y known-apart
 
   union-off : (a b : ℕ) → Within a (q .known-on) → Within b (q .known-off) → reasonsOff q (union a b) ≡ b
   unfolding reasonsOff
-  union-off a b x y =
-      ext _ _ (λ v. omega (arith, bit-inter (union a b) (q .known-off) v, bit-union a b v, x .keeps v, y .keeps v, known-apart v, bit-le a v, bit-le b v))
+  union-off a b x y = part-of (union a b) b a _ _ (λ v. omega (arith, bit-union a b v)) y x (apart-symm _ _ known-apart)
 
   pub reasons-union : (s : ℕ) → Within s (union (q .known-on) (q .known-off)) → union (reasonsOn q s) (reasonsOff q s) ≡ s
   unfolding reasonsOn reasonsOff

@@ -3,11 +3,11 @@
 use mathlib.Core.Path.{_≡_, refl, sym, subst, _∙_}
 use mathlib.Core.Logic.{_⊎_, inl, inr}
 use mathlib.Core.Bool.{Bool, true, false, _&&_, _||_, true≢false, false≢true}
-use mathlib.Core.List.{List, [], _∷_, List·Memᴰ, List·Memᴰ·head, List·Memᴰ·tail, List·Memᴰ·not-nil, List·Memᴰ·cases-cons}
+use mathlib.Core.List.{List, _∷_, List·Memᴰ, List·Memᴰ·head, List·Memᴰ·tail, List·Memᴰ·not-nil, List·Memᴰ·cases-cons, []}
 use Prim.Native.Nat.{ℕ, _/_, _%_, _≤_, _<_}
 use native.Mathlib.Omega.{arith}
 use lib.Dec.{ltb, eqb}
-use borrow.Author.Tests.{ltb-true, ltb-false, eqb-true, eqb-false, lt-ltb, le-ltb}
+use borrow.Author.Tests.{ltb-true, ltb-false, eqb-true, eqb-false}
 use Rattle.step.specs.Meaning.{Candidate, before, earlier, firstOf}
 use Rattle.step.specs.IsStep.{Lex, Upto}
 use Rattle.step.specs.Contracts.{costUnit, setRoom, goalRoom, keyOf, Small}
@@ -86,7 +86,8 @@ first-in c (d ∷ ds) = go (earlier d c) refl (first-in d ds) (first-in c ds)
     more e f h k x (inl p) = subst (Upto e) (sym p) h
     more e f h k x (inr m) = k x m
 
-    both : (e : Candidate) → Upto e c → Upto e d → ((x : Candidate) → List·Memᴰ x ds → Upto e x) → (x : Candidate) → (x ≡ c) ⊎ List·Memᴰ x (d ∷ ds) → Upto e x
+    both : (e : Candidate) → Upto e c → Upto e d → ((x : Candidate) → List·Memᴰ x ds → Upto e x) → (x : Candidate) → (x ≡ c) ⊎ List·Memᴰ x (d ∷ ds)
+        → Upto e x
     both e h i k x (inl p) = subst (Upto e) (sym p) h
     both e h i k x (inr m) = more e d i k x (List·Memᴰ·cases-cons m)
 
@@ -117,23 +118,11 @@ key c = keyOf (c .cost) (c .goal) (c .reasons)
 abbrev pub SmallOne : Candidate → Type 0
 SmallOne c = Small (c .cost) (c .goal) (c .reasons)
 
-pub before-key : (c d : Candidate) → SmallOne c → SmallOne d → Before c d → key c < key d
-before-key c d x y (inl h) = omega (arith, x .goal-small, x .set-small)
-before-key c d x y (inr (p, inl h)) = omega (arith, x .set-small)
-before-key c d x y (inr (p, inr (q, h))) = omega arith
-
+-- the order of the keys is the order of the candidates
 pub upto-key : (c d : Candidate) → SmallOne c → SmallOne d → Upto c d → key c ≤ key d
 upto-key c d x y (inl h) = omega (arith, x .goal-small, x .set-small)
 upto-key c d x y (inr (p, inl h)) = omega (arith, x .set-small)
 upto-key c d x y (inr (p, inr (q, h))) = omega arith
-
--- the order of the keys is the order of the candidates
-pub earlier-key : (c d : Candidate) → SmallOne c → SmallOne d → earlier c d ≡ ltb (key c) (key d)
-earlier-key c d x y = go (earlier c d) refl
-  where
-    go : (b : Bool) → earlier c d ≡ b → b ≡ ltb (key c) (key d)
-    go true e = sym (lt-ltb (key c) (key d) (before-key c d x y (earlier-true c d e)))
-    go false e = sym (le-ltb (key c) (key d) (upto-key d c y x (earlier-false c d e)))
 
 -- what a key says
 pub record Decoded (r cost goal s : ℕ) : Type 0 where

@@ -1,27 +1,29 @@
 -- The least key is the step: the answer in each case. Assumes nothing.
 use mathlib.Core.Path.{_≡_, sym, ap, ap₂, subst, _∙_}
-use mathlib.Core.Bool.{Bool, true, false, true≢false}
+use mathlib.Core.Bool.{Bool, true, true≢false}
 use mathlib.Core.List.{List}
 use Prim.Native.Nat.{ℕ, _/_, _%_, _≤_, _<_}
 use native.Mathlib.Omega.{arith}
-use Rattle.sets.specs.Sets.{bit, has, union, inter, diff}
+use Rattle.sets.specs.Sets.{bit, has, union, inter, diff, Within}
 use Rattle.sets.specs.Laws.Bits.{bit-union, pos-of-member}
 use Rattle.sets.specs.Laws.Subset.{within-le, inter-in}
-use Rattle.literals.specs.Literal.{Literal}
+use Rattle.literals.specs.Literal.{Literal, literalOf}
 use Rattle.literals.specs.declared.LiteralSet.{LiteralSet}
+use Rattle.sat.specs.Laws.Assigns.{posed-within}
 use Rattle.consequence.specs.Meaning.{contradicts, yesForced, noForced}
 use Rattle.consequence.specs.Contracts.{maskTheory, Concluded}
 use Rattle.consequence.specs.Laws.Forcing.{model-contradicts}
 use Rattle.consequence.specs.Laws.Masks.{to-theory, of-theory}
 use Rattle.consequence.specs.declared.Consequence.{Consequence}
 use Rattle.consequence.specs.declared.Consequence.the-variants.{NoModel as Contradiction, Forced}
-use Rattle.step.specs.Meaning.{Question, literalOf, yesGoals, noGoals, goals, goalLiteral, reasonsOn, reasonsOff, candidateCost, Candidate, candidate, theStep, step, newOn, newOff, stepFrom, stepOf}
-use Rattle.step.specs.Contracts.{costUnit, setRoom, goalRoom, keyOf, Small, maskQuestion, openGoals, Ready, ReadyWithGoal, Picks, GoalAndSet, keyOfPair, LeastFound, Reasoned, Learnt, Asked, Chosen, stepAt, nextOf}
+use Rattle.step.specs.Meaning.{Question, yesGoals, noGoals, goals, goalLiteral, reasonsOn, reasonsOff, candidateCost, Candidate, candidate}
+use Rattle.step.specs.Meaning.{theStep, step, newOn, newOff, stepFrom, stepOf}
+use Rattle.step.specs.Contracts.{costUnit, setRoom, goalRoom, keyOf, Small, maskQuestion, openGoals, Ready, ReadyWithGoal, Picks, GoalAndSet}
+use Rattle.step.specs.Contracts.{keyOfPair, LeastFound, Reasoned, Learnt, Asked, Chosen, stepAt, nextOf}
 use Rattle.step.specs.Laws.Order.{upto-key, Decoded, decode}
-use Rattle.reasons.specs.Laws.Explores.{reasons-posed}
 use Rattle.step.specs.Laws.Given.{model-fewer}
 use Rattle.step.specs.Laws.Candidates.{Stepped}
-use Rattle.step.specs.Laws.Goals.{goal-open, known-posed, against-small}
+use Rattle.step.specs.Laws.Goals.{goal-open, against-small}
 use Rattle.step.specs.Laws.TheStep.{taken, step-left, step-open, asked-sound}
 use Rattle.step.specs.declared.Next.{Next}
 
@@ -105,12 +107,24 @@ module _ {n : ℕ} {ys ns : List ℕ} {table : List (List ℕ)} {c k : LiteralSe
 
 -- ---- `learn`
 
+-- a set within one that has a model has it too
+pub reasoned-within : {n : ℕ} {ys ns : List ℕ} {ch : ℕ} {r s : LiteralSet} → Within (s .yes) (r .yes) → Within (s .no) (r .no)
+    → Reasoned n ys ns ch r → Reasoned n ys ns ch s
+reasoned-within {ch = ch} y m x =
+    record {
+      posed = posed-within (x .posed) y m;
+      short = x .short;
+      choices-below = x .choices-below;
+      model = (x .model .0, of-theory ch (model-fewer y m (x .model .0) (to-theory ch (x .model .1))));
+    }
+
 module _ {n : ℕ} {ys ns : List ℕ} {ch : ℕ} {reasons k : LiteralSet} {o : Consequence} where
   -- the reasons have a model
   pub learn-absurd : {r : LiteralSet} → Reasoned n ys ns ch reasons → Concluded n ys ns ch (reasons .yes) (reasons .no) o → o ≡ Contradiction
       → Learnt n ys ns ch reasons k r
   learn-absurd x s e =
-      let no-model : contradicts (maskTheory n ys ns ch) (reasons .yes) (reasons .no) ≡ true = subst (Concluded n ys ns ch (reasons .yes) (reasons .no)) e s .said in
+      let no-model : contradicts (maskTheory n ys ns ch) (reasons .yes) (reasons .no) ≡ true =
+      subst (Concluded n ys ns ch (reasons .yes) (reasons .no)) e s .said in
       absurd (true≢false (sym no-model ∙ model-contradicts (maskTheory n ys ns ch) (reasons .yes) (reasons .no) (x .model .0) (to-theory ch (x .model .1))))
 
   pub learnt : {forced : LiteralSet} {a b : ℕ} → Concluded n ys ns ch (reasons .yes) (reasons .no) o → o ≡ Forced forced → a ≡ diff (forced .yes) (k .yes)
@@ -122,7 +136,8 @@ module _ {n : ℕ} {ys ns : List ℕ} {ch : ℕ} {reasons k : LiteralSet} {o : C
 -- ---- the answers
 
 module _ {n : ℕ} {ys ns : List ℕ} {ch : ℕ} {table : List (List ℕ)} {c k : LiteralSet} where
-  pub answer-nothing : {g : ℕ} → Asked n ys ns ch table c k → g ≡ openGoals c k → g ≡ 0 → Next.NothingLeft ≡ nextOf (stepOf (maskQuestion n ys ns ch table c k))
+  pub answer-nothing : {g : ℕ} → Asked n ys ns ch table c k → g ≡ openGoals c k → g ≡ 0
+      → Next.NothingLeft ≡ nextOf (stepOf (maskQuestion n ys ns ch table c k))
   unfolding goals yesGoals noGoals
   answer-nothing a e d = sym (ap nextOf (step-left (maskQuestion n ys ns ch table c k) (sym e ∙ d)))
 
@@ -137,12 +152,8 @@ module _ {n : ℕ} {ys ns : List ℕ} {ch : ℕ} {table : List (List ℕ)} {c k 
     pub answer-chosen : Chosen n ys ns ch k best
     answer-chosen =
         record {
-          known = record {
-            posed = known-posed (asked-ready a);
-            short = a .short;
-            choices-below = a .choices-below;
-            model = (a .model .0, of-theory ch (model-fewer (a .known-yes) (a .known-no) (a .model .0) (to-theory ch (a .model .1))));
-          };
+          known = reasoned-within (a .known-yes) (a .known-no)
+              (record { posed = a .posed; short = a .short; choices-below = a .choices-below; model = a .model });
           cheap = omega (arith, picked .costs, picks-small ch (asked-ready a) _ _ (picked .picks) .cost-small);
         }
 
@@ -166,17 +177,7 @@ module _ {n : ℕ} {ys ns : List ℕ} {ch : ℕ} {table : List (List ℕ)} {c k 
 module _ {n : ℕ} {ys ns : List ℕ} {ch best : ℕ} {k : LiteralSet} (x : Chosen n ys ns ch k best) where
   -- any literals of K serve as reasons
   pub chosen-reasons : (s t : ℕ) {a b : ℕ} → a ≡ inter s (k .yes) → b ≡ inter t (k .no) → Reasoned n ys ns ch (record { yes = a; no = b })
-  chosen-reasons s t p q =
-      rw (p, q)
-      (record {
-        posed = reasons-posed s t (x .known .posed);
-        short = x .known .short;
-        choices-below = x .known .choices-below;
-        model = (
-          x .known .model .0,
-          of-theory ch (model-fewer (inter-in s (k .yes)) (inter-in t (k .no)) (x .known .model .0) (to-theory ch (x .known .model .1))),
-        );
-      })
+  chosen-reasons s t p q = rw (p, q) (reasoned-within (inter-in s (k .yes)) (inter-in t (k .no)) (x .known))
 
   pub chosen-step : (c : LiteralSet) {d a b : ℕ} {says : Bool} {l : Literal} {new : LiteralSet} → d ≡ diff (c .yes) (k .yes)
       → says ≡ has d (best / setRoom % goalRoom) → l ≡ literalOf (best / setRoom % goalRoom) says → a ≡ inter (best % setRoom) (k .yes)

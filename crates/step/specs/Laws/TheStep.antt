@@ -1,48 +1,55 @@
 -- The step that is answered is the step, for every filling and every candidate. Assumes nothing.
 use mathlib.Core.Path.{_≡_, refl, sym, ap, ap₂, subst, subst₂, _∙_}
 use mathlib.Core.Logic.{by-cases}
-use mathlib.Core.Bool.{Bool, true, false, not, true≢false, false≢true}
+use mathlib.Core.Bool.{Bool, true, false, not}
 use mathlib.Core.List.{List}
 use Prim.Native.Nat.{ℕ, _≤_, _<_}
 use native.Mathlib.Decide.{ℕ-discrete}
 use native.Mathlib.Omega.{arith}
 use lib.Dec.{eqb}
-use borrow.Author.Tests.{eqb-true, eqb-false, eq-eqb, ne-eqb}
-use Rattle.sets.specs.Sets.{bit, has, union, diff}
+use borrow.Author.Tests.{eqb-true, eqb-false, eq-eqb, ne-eqb, not-true}
+use Rattle.sets.specs.Sets.{bit, has, union, diff, Within}
 use Rattle.sets.specs.Laws.Bits.{bit-le, bit-zero, bit-union, bit-diff, pos-of-member, ext}
-use Rattle.sets.specs.Laws.Subset.{one-has, zero-has, within-le, inter-in}
+use Rattle.sets.specs.Laws.Subset.{one-has, zero-has, within-le, inter-in, has-true, has-false}
 use Rattle.sets.specs.Laws.Least.{trailing-least}
 use Rattle.literals.specs.Truth.{holds}
 use Rattle.literals.specs.declared.LiteralSet.{LiteralSet}
-use Rattle.sat.specs.Contracts.{digit}
+use Rattle.literals.specs.Literal.{literalOf}
+use Rattle.propagation.specs.Contracts.{digit}
 use Rattle.consequence.specs.Meaning.{yesForced, noForced, ModelOf, NoModelOf}
 use Rattle.consequence.specs.Laws.Forcing.{Exactly, yes-exactly, no-exactly}
 use Rattle.consequence.specs.Laws.Masks.{theory-assigned, to-theory, of-theory}
-use Rattle.step.specs.Meaning.{Question, setCost, literalOf, yesGoals, goals, goalLiteral, reasonsOn, reasonsOff, candidateCost, Candidate, candidate, allKnown, theStep, Step, nothingLeft, step, newOn, newOff, stepFrom, stepOf}
+use Rattle.witnesses.specs.Laws.Questions.{opposite}
+use Rattle.step.specs.Meaning.{Question, setCost, yesGoals, goals, goalLiteral, reasonsOn, reasonsOff, candidateCost, Candidate, candidate}
+use Rattle.step.specs.Meaning.{allKnown, theStep, Step, nothingLeft, step, newOn, newOff, stepFrom, stepOf, noGoals}
 use Rattle.step.specs.Contracts.{Picks, Asked, maskQuestion}
 use Rattle.step.specs.Laws.Order.{upto-cost}
 use Rattle.step.specs.IsStep.{Sound, oppositeOn, oppositeOff, Goal, Candidature, Upto, placed, New, Gained, IsStep}
-use Rattle.reasons.specs.Laws.Explores.{opposite}
-use Rattle.step.specs.Laws.Known.{Forcing, goals-at, is-goal, against-on, against-off, reasons-union, goal-is, candidature-picks, candidature-cost, all-picked}
+use Rattle.step.specs.Laws.Known.{Forcing, goals-at, is-goal, against-on, against-off, reasons-union, goal-is, candidature-picks, candidature-cost}
+use Rattle.step.specs.Laws.Known.{all-picked, open-unknown}
 use Rattle.step.specs.Laws.Candidates.{Sized, Stepped, the-step, picks-goal}
 
 -- ---- the two answers
 
 pub step-left : (q : Question) → goals q ≡ 0 → stepOf q ≡ nothingLeft
 unfolding stepOf
-step-left q e = go (eqb (goals q) 0) (eq-eqb (goals q) 0 e)
-  where
-    go : (b : Bool) → b ≡ true → elim b [ true ↦ nothingLeft | false ↦ step (stepFrom q (theStep q)) ] ≡ nothingLeft
-    go true d = refl
-    go false d = absurd (false≢true d)
+step-left q e = rw (eq-eqb (goals q) 0 e, stepOf) refl
 
 pub step-open : (q : Question) → (goals q ≡ 0 → ⊥) → stepOf q ≡ step (stepFrom q (theStep q))
 unfolding stepOf
-step-open q e = go (eqb (goals q) 0) (ne-eqb (goals q) 0 e)
-  where
-    go : (b : Bool) → b ≡ false → elim b [ true ↦ nothingLeft | false ↦ step (stepFrom q (theStep q)) ] ≡ step (stepFrom q (theStep q))
-    go true d = absurd (true≢false d)
-    go false d = refl
+step-open q e = rw (ne-eqb (goals q) 0 e, stepOf) refl
+
+-- ---- a literal and the digit of its variable
+
+pub holds-digit : (f v : ℕ) (b : Bool) → bit f v ≡ digit b → holds f (literalOf v b) ≡ true
+unfolding holds
+holds-digit f v true e = one-has f v e
+holds-digit f v false e = ap not (zero-has f v e)
+
+pub digit-holds : (f v : ℕ) (b : Bool) → holds f (literalOf v b) ≡ true → bit f v ≡ digit b
+unfolding holds
+digit-holds f v true e = has-true f v e
+digit-holds f v false e = has-false f v (not-true (has f v) e)
 
 module _ (q : Question) (z : Sound q) where
   pub sound-forcing : Forcing q
@@ -54,19 +61,34 @@ module _ (q : Question) (z : Sound q) where
         forces = z .forces;
       }
 
+  -- a goal is over a choice, and its variable is not known
+  pub goals-choices : Within (goals q) (q .theory .choices)
+  goals-choices =
+      record { keeps = λ v. omega (arith, goals-at q v, z .on-choices .keeps v, z .off-choices .keeps v, bit-le (q .con-on) v, bit-le (q .con-off) v) }
+
+  pub goal-unknown : (v : ℕ) → bit (goals q) v ≡ 1 → (bit (q .theory .choices) v ≡ 1) × (bit (q .known-on) v ≡ 0) × (bit (q .known-off) v ≡ 0)
+  unfolding goals yesGoals noGoals
+  goal-unknown v e =
+      let u = open-unknown v (z .known-on) (z .known-off) (sound-forcing .apart) e in
+      (omega (arith, e, goals-choices .keeps v, bit-le (q .theory .choices) v), u .0, u .1)
+
   pub sound-sized : Sized q
   sound-sized =
       record {
-        goals-below = omega (arith, z .choices-below, within-le (goals q) (q .theory .choices) (record { keeps = goal-choice }));
+        goals-below = omega (arith, z .choices-below, within-le (goals q) (q .theory .choices) goals-choices);
         known-below = omega (arith, z .choices-below, within-le (union (q .known-on) (q .known-off)) (q .theory .choices) (record { keeps = known-choice }));
       }
     where
-      goal-choice : (v : ℕ) → bit (goals q) v ≤ bit (q .theory .choices) v
-      goal-choice v = omega (arith, goals-at q v, z .on-choices .keeps v, z .off-choices .keeps v, bit-le (q .con-on) v, bit-le (q .con-off) v)
-
       known-choice : (v : ℕ) → bit (union (q .known-on) (q .known-off)) v ≤ bit (q .theory .choices) v
       known-choice v =
-          omega (arith, bit-union (q .known-on) (q .known-off) v, z .known-on .keeps v, z .known-off .keeps v, z .on-choices .keeps v, z .off-choices .keeps v)
+          omega (
+            arith,
+            bit-union (q .known-on) (q .known-off) v,
+            z .known-on .keeps v,
+            z .known-off .keeps v,
+            z .on-choices .keeps v,
+            z .off-choices .keeps v,
+          )
 
   -- what is forced
   forced-by : (on off v : ℕ) (b : Bool) → NoModelOf (q .theory) (oppositeOn b on v) (oppositeOff b off v) → (f : ℕ) → ModelOf (q .theory) on off f
@@ -78,11 +100,6 @@ module _ (q : Question) (z : Sound q) where
       other : (b : Bool) → (bit f v ≡ digit b → ⊥) → bit f v ≡ digit (not b)
       other true d = omega (arith, bit-le f v)
       other false d = omega (arith, bit-le f v)
-
-  holds-digit : (f v : ℕ) (b : Bool) → bit f v ≡ digit b → holds f (literalOf v b) ≡ true
-  unfolding holds
-  holds-digit f v true e = one-has f v e
-  holds-digit f v false e = ap not (zero-has f v e)
 
   -- the new literals
   new-is : (on off d known m : ℕ) → Exactly (q .theory) on off d m → New (q .theory) on off d known (diff m known)
@@ -142,7 +159,8 @@ module _ (q : Question) (z : Sound q) where
       costs : c .cost ≡ placed q on off v b .cost
       costs =
           ap (λ (d : Candidate). d .cost) (t .listed .is)
-          ∙ ap₂ (λ (x : ℕ) (y : ℕ). setCost (q .table) (q .theory .variables) x y) (against-on q sound-forcing (c .reasons) v b g) (against-off q sound-forcing (c .reasons) v b g)
+          ∙ ap₂ (λ (x : ℕ) (y : ℕ). setCost (q .table) (q .theory .variables) x y)
+          (against-on q sound-forcing (c .reasons) v b g) (against-off q sound-forcing (c .reasons) v b g)
 
       first : (a o u : ℕ) (y : Bool) → Candidature q a o u y → Upto (placed q on off v b) (placed q a o u y)
       first a o u y k = subst₂ Upto mine theirs (t .first u (union a o) (candidature-picks q sound-forcing a o u y k))
@@ -162,19 +180,12 @@ module _ (q : Question) (z : Sound q) where
       below : v < q .theory .variables
       below = picks-goal q v (c .reasons) sound-sized p
 
-      choice : bit (q .theory .choices) v ≡ 1
-      choice =
-          omega (arith, p .goal, goals-at q v, z .on-choices .keeps v, z .off-choices .keeps v, bit-le (q .theory .choices) v, bit-le (q .con-on) v, bit-le (q .con-off) v)
-
-      unknown : bit (q .known-on) v ≡ 0
-      unknown = omega (arith, p .goal, goals-at q v, sound-forcing .apart .avoids v, z .known-on .keeps v, z .known-off .keeps v)
-
-      unknown-off : bit (q .known-off) v ≡ 0
-      unknown-off = omega (arith, p .goal, goals-at q v, sound-forcing .apart .avoids v, z .known-on .keeps v, z .known-off .keeps v)
+      out : (bit (q .theory .choices) v ≡ 1) × (bit (q .known-on) v ≡ 0) × (bit (q .known-off) v ≡ 0)
+      out = goal-unknown v (p .goal)
 
       gains : (y : Bool) → b ≡ y → Gained (stepFrom q c) v y
-      gains true e = yes-new .complete v below choice unknown (λ f m. forced-by on off v b (it .contradicts) f m ∙ ap digit e)
-      gains false e = no-new .complete v below choice unknown-off (λ f m. forced-by on off v b (it .contradicts) f m ∙ ap digit e)
+      gains true e = yes-new .complete v below (out .0) (out .1) (λ f m. forced-by on off v b (it .contradicts) f m ∙ ap digit e)
+      gains false e = no-new .complete v below (out .0) (out .2) (λ f m. forced-by on off v b (it .contradicts) f m ∙ ap digit e)
 
   -- ---- the answer
 
@@ -225,7 +236,8 @@ module _ (q : Question) (z : Sound q) where
       (stepFrom q (theStep q), e, step-is _ e)
 
 -- what `next_step` requires makes sense
-pub asked-sound : {n ch : ℕ} {ys ns : List ℕ} {table : List (List ℕ)} {c k : LiteralSet} → Asked n ys ns ch table c k → Sound (maskQuestion n ys ns ch table c k)
+pub asked-sound : {n ch : ℕ} {ys ns : List ℕ} {table : List (List ℕ)} {c k : LiteralSet} → Asked n ys ns ch table c k
+    → Sound (maskQuestion n ys ns ch table c k)
 asked-sound a =
     record {
       choices-below = a .choices-below;
