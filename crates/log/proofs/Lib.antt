@@ -1,4 +1,1 @@
-mod ListLaws
-mod RecordLaws
 pub mod RunLaws
-pub mod StoreLaws

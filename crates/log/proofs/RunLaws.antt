@@ -2,33 +2,33 @@
 -- Assumes nothing.
 use mathlib.Core.Path.{_≡_, refl, sym, ap, ap₂, _∙_}
 use mathlib.Core.List.{List, [], _∷_, _++_, append-assoc, append-nil}
+use mathlib.Core.Bool.{true, false}
 use Prim.Native.Nat.{ℕ, zero, suc, _+_, _-_, _*_, _^_, _≤_, _<_}
 use native.Mathlib.Nat.{zero-add}
 use native.Mathlib.Omega.{arith}
 use lib.Count.{ones-le}
 use lib.IntN.{ℤ}
 use lib.ListN.{length, length-append}
-use Rattle.sets.specs.Sets.{bit, union, diff, count, Within}
-use Rattle.sets.specs.Laws.Bits.{bit-union, bit-diff, union-lt}
-use Rattle.sets.specs.Laws.Subset.{within-le}
+use Rattle.sets.specs.Sets.{union, count, Within}
+use Rattle.sets.specs.Laws.Bits.{union-lt}
+use Rattle.sets.specs.Laws.Subset.{within-le, within-trans}
 use Rattle.sets.specs.Laws.Count.{ones-union}
 use Rattle.literals.specs.declared.LiteralSet.{LiteralSet}
-use Rattle.book.specs.Limits.{maxChoices, maxStepBytes, maxLog}
+use Rattle.records.specs.Limits.{maxChoices, maxStepBytes, maxLog}
 use Rattle.consequence.specs.Laws.Masks.{to-theory, of-theory}
-use Rattle.step.specs.Meaning.{Step, Answer, nothingLeft, step, stepOf, goals, yesGoals, noGoals}
+use Rattle.step.specs.Meaning.{Step, Answer, nothingLeft, step, stepOf, goals}
 use Rattle.step.specs.Contracts.{Asked, maskQuestion, nextOf}
-use Rattle.step.specs.Laws.TheStep.{asked-sound}
-use Rattle.step.specs.IsStep.{IsStep}
-use Rattle.step.specs.Theorems.{step-is}
+use Rattle.step.specs.Laws.TheStep.{asked-sound, goals-choices}
 use Rattle.step.specs.declared.Next.{Next}
 use Rattle.step.specs.declared.Next.the-variants as Next
-use Rattle.log.specs.Format.{recordsBytes, okBytes, logBytes}
-use Rattle.log.specs.Meaning.{withNew, runFrom, runOf, costsWritten, logOf}
-use Rattle.log.specs.Contracts.{Put, putStep, stepBytes, stepsBytes, totalOf, LogAsked, LogWritten}
+use Rattle.log_form.specs.Format.{recordsBytes, okBytes, logBytes}
+use Rattle.log.specs.Meaning.{withNew, runFrom, runOf, recordOf, costsWritten, logOf}
+use Rattle.log.specs.Contracts.{putStep, stepBytes, stepsBytes, totalOf, LogAsked, LogWritten}
 use Rattle.log.specs.Laws.Growth as growth
-use Rattle.log.proofs.ListLaws.{list-length}
-use Rattle.log.proofs.RecordLaws.{step-length, ok-length}
-use Rattle.log.proofs.StoreLaws.{put-append, put-none, put-length, put-whole}
+use Rattle.log_form.proofs.ListLaws.{list-length}
+use Rattle.log_form.proofs.RecordLaws.{step-length, ok-length}
+use Rattle.log_form.proofs.StoreLaws.{put-append, put-none, put-length, put-whole}
+use Rattle.log_form.specs.Contracts.{Put}
 
 -- ---- steps in a row
 
@@ -44,17 +44,17 @@ total-snoc (x ∷ ss) s = omega (arith, total-snoc ss s)
 
 -- ---- the next step's answer, taken back
 
+-- a step is made of the parts that were answered
+pub of-parts : {s : Step} {g : ℤ} {x y : LiteralSet} {k : ℕ} → s .goal ≡ g → record { yes = s .reasons-on; no = s .reasons-off } ≡ x
+    → record { yes = s .new-on; no = s .new-off } ≡ y → s .cost ≡ k → s ≡ putStep g x y k
+of-parts a b c d = rw (← a, ← b, ← c, ← d) refl
+
 pub answered-step : (a : Answer) {g : ℤ} {x y : LiteralSet} {k : ℕ} {r : Next} → r ≡ nextOf a → r ≡ Next.Step g x y k → a ≡ step (putStep g x y k)
 answered-step nothingLeft e f = let z : _≡_ {A = ℕ} 0 1 = cc in absurd (omega arith)
 answered-step (step s) {g} {x} {y} {k} e f = same (sym e ∙ f)
   where
     same : nextOf (step s) ≡ Next.Step g x y k → step s ≡ step (putStep g x y k)
-    same h =
-        let a : s .goal ≡ g = cc in
-        let b : record { yes = s .reasons-on; no = s .reasons-off } ≡ x = cc in
-        let c : record { yes = s .new-on; no = s .new-off } ≡ y = cc in
-        let d : s .cost ≡ k = cc in
-        rw (← a, ← b, ← c, ← d) refl
+    same h = ap step (of-parts (cc) (cc) (cc) (cc))
 
 pub answered-nothing : (a : Answer) {r : Next} → r ≡ nextOf a → r ≡ Next.NothingLeft → a ≡ nothingLeft
 answered-nothing nothingLeft e f = refl
@@ -64,15 +64,6 @@ answered-nothing (step s) e f = let z : _≡_ {A = ℕ} 0 1 = cc in absurd (omeg
 
 module _ {n : ℕ} {ys ns : List ℕ} {ch : ℕ} {table : List (List ℕ)} {c facts : LiteralSet} (lg : LogAsked n ys ns ch table c facts) where
   module _ {known : LiteralSet} (a : Asked n ys ns ch table c known) {s : Step} (e : stepOf (maskQuestion n ys ns ch table c known) ≡ step s) where
-    is : IsStep (maskQuestion n ys ns ch table c known) s
-    is = step-is (maskQuestion n ys ns ch table c known) (asked-sound a) s e
-
-    new-yes-within : Within (s .new-on) (c .yes)
-    new-yes-within = growth.new-yes-within (lg .forced) (asked-sound a) e
-
-    new-no-within : Within (s .new-off) (c .no)
-    new-no-within = growth.new-no-within (lg .forced) (asked-sound a) e
-
     -- what is asked next
     pub asked-more : Asked n ys ns ch table c (record { yes = union (known .yes) (s .new-on); no = union (known .no) (s .new-off) })
     asked-more = record {
@@ -90,37 +81,31 @@ module _ {n : ℕ} {ys ns : List ℕ} {ch : ℕ} {table : List (List ℕ)} {c fa
       cheap = a .cheap;
     }
 
-    pub goals-fewer : count (goals (maskQuestion n ys ns ch table c (record { yes = union (known .yes) (s .new-on); no = union (known .no) (s .new-off) }))) < count (goals (maskQuestion n ys ns ch table c known))
+    pub goals-fewer : count (goals (maskQuestion n ys ns ch table c
+        (record { yes = union (known .yes) (s .new-on); no = union (known .no) (s .new-off) }))) < count (goals (maskQuestion n ys ns ch table c known))
     goals-fewer = growth.goals-fewer (lg .forced) (asked-sound a) e
 
     -- ---- how long the record is
 
-    reasons : ℕ
-    reasons = union (s .reasons-on) (s .reasons-off)
-
-    learnt : ℕ
-    learnt = union (s .new-on) (s .new-off)
-
-    inside : (m on off : ℕ) → ((v : ℕ) → bit on v ≤ bit (c .yes) v) → ((v : ℕ) → bit off v ≤ bit (c .no) v) → m ≡ union on off → m < 2 ^ maxChoices
-    inside m on off x y e =
-        omega (arith, a .rows, within-le m ch (record { keeps = λ v. omega (arith, ap (λ k. bit k v) e, bit-union on off v, x v, y v, a .yes-choices .keeps v, a .no-choices .keeps v) }))
-
-    reasons-few : reasons < 2 ^ maxChoices
-    unfolding reasons
-    reasons-few = inside _ (s .reasons-on) (s .reasons-off) (λ v. omega (arith, is .is-candidate .on-known .keeps v, a .known-yes .keeps v)) (λ v. omega (arith, is .is-candidate .off-known .keeps v, a .known-no .keeps v)) refl
-
-    learnt-few : learnt < 2 ^ maxChoices
-    unfolding learnt
-    learnt-few = inside _ (s .new-on) (s .new-off) (λ v. new-yes-within .keeps v) (λ v. new-no-within .keeps v) refl
+    -- a set over choices
+    few : (on off : ℕ) → Within on (c .yes) → Within off (c .no) → union on off < 2 ^ maxChoices
+    few on off x y =
+        union-lt maxChoices on off (omega (arith, a .rows, within-le on ch (within-trans _ _ _ x (a .yes-choices))))
+        (omega (arith, a .rows, within-le off ch (within-trans _ _ _ y (a .no-choices))))
 
     pub step-short : length (stepBytes s) ≤ maxStepBytes
-    unfolding reasons learnt
     step-short =
+        let is = growth.is (lg .forced) (asked-sound a) e in
+        let reasons : ℕ = union (s .reasons-on) (s .reasons-off) in
+        let learnt : ℕ = union (s .new-on) (s .new-off) in
+        let reasons-few = few _ _ (within-trans _ _ _ (is .is-candidate .on-known) (a .known-yes))
+        (within-trans _ _ _ (is .is-candidate .off-known) (a .known-no)) in
+        let learnt-few = few _ _ (growth.new-within (lg .forced) (asked-sound a) e true) (growth.new-within (lg .forced) (asked-sound a) e false) in
         omega (
           arith,
-          step-length s,
-          list-length (s .reasons-on) (s .reasons-off) (omega (arith, reasons-few)),
-          list-length (s .new-on) (s .new-off) (omega (arith, learnt-few)),
+          step-length (recordOf s),
+          list-length (s .reasons-on) (s .reasons-off),
+          list-length (s .new-on) (s .new-off),
           ones-union reasons learnt (growth.reasons-new-apart (lg .forced) (asked-sound a) e),
           ones-le maxChoices (union reasons learnt) (union-lt maxChoices reasons learnt reasons-few learnt-few),
         )
@@ -143,11 +128,8 @@ module _ {n : ℕ} {ys ns : List ℕ} {ch : ℕ} {table : List (List ℕ)} {c fa
     pub cheap : total ≤ 65535 * steps
 
   goals-few : (known : LiteralSet) → Asked n ys ns ch table c known → count (goals (maskQuestion n ys ns ch table c known)) ≤ maxChoices
-  unfolding goals yesGoals noGoals
   goals-few known a =
-      let m = union (diff (c .yes) (known .yes)) (diff (c .no) (known .no)) in
-      let w : Within m ch = record { keeps = λ v. omega (arith, bit-union (diff (c .yes) (known .yes)) (diff (c .no) (known .no)) v, bit-diff (c .yes) (known .yes) v, bit-diff (c .no) (known .no) v, a .yes-choices .keeps v, a .no-choices .keeps v) } in
-      ones-le maxChoices m (omega (arith, a .rows, within-le m ch w))
+      ones-le maxChoices _ (omega (arith, a .rows, within-le _ ch (goals-choices (maskQuestion n ys ns ch table c known) (asked-sound a))))
 
   pub logging-none : {before : List ℕ} → maxLog ≤ length before → Logging before before 0 facts 0 0
   unfolding runOf recordsBytes costsWritten
@@ -177,13 +159,15 @@ module _ {n : ℕ} {ys ns : List ℕ} {ch : ℕ} {table : List (List ℕ)} {c fa
       pub logging-room : at + length (stepBytes s) ≤ length bytes
       logging-room = omega (arith, bytes-room, w .short, step-open, step-short (w .asked) e)
 
-      pub logging-more : {out : List ℕ} {next y z : ℕ} → s .cost < 65536 → Put bytes at (stepBytes s) out next → y ≡ union (known .yes) (s .new-on) → z ≡ union (known .no) (s .new-off)
+      pub logging-more : {out : List ℕ} {next y z : ℕ} → s .cost < 65536 → Put bytes at (stepBytes s) out next → y ≡ union (known .yes) (s .new-on)
+          → z ≡ union (known .no) (s .new-off)
           → Logging before out next (record { yes = y; no = z }) (steps + 1) (total + s .cost)
       unfolding runFrom withNew
       logging-more {out} {next} {y} {z} k p f g = rw (f, g) (record {
         taken = w .taken ++ (s ∷ []);
         turns = w .turns - 1;
-        so-far = w .so-far ∙ ap (λ r. w .taken ++ r) (one (w .turns - 1) (omega (arith, goals-fewer (w .asked) e, w .enough))) ∙ sym (append-assoc (w .taken) (s ∷ []) _);
+        so-far = w .so-far ∙ ap (λ r. w .taken ++ r) (one (w .turns - 1) (omega (arith, goals-fewer (w .asked) e, w .enough)))
+            ∙ sym (append-assoc (w .taken) (s ∷ []) _);
         enough = omega (arith, goals-fewer (w .asked) e, w .enough);
         room = w .room;
         put = rw (bytes-snoc (w .taken) s) (put-append (stepsBytes (w .taken)) (stepBytes s) (w .put) p);
@@ -216,7 +200,8 @@ module _ {n : ℕ} {ys ns : List ℕ} {ch : ℕ} {table : List (List ℕ)} {c fa
     unfolding logBytes
     written {after} {size} o =
         let same : okBytes steps total ≡ okBytes (length (w .taken)) (totalOf (w .taken)) = ap₂ okBytes (w .counted) (w .summed) in
-        let all : Put before 0 (logBytes (logOf (w .taken))) after size = put-append (stepsBytes (w .taken)) (okBytes (length (w .taken)) (totalOf (w .taken))) (w .put) (rw same at o) in
+        let all : Put before 0 (logBytes (logOf (w .taken))) after size =
+        put-append (stepsBytes (w .taken)) (okBytes (length (w .taken)) (totalOf (w .taken))) (w .put) (rw same at o) in
         let long : size ≡ length (logBytes (logOf (w .taken))) = all .place ∙ zero-add (length (logBytes (logOf (w .taken)))) in
         let fits : length (logBytes (logOf (w .taken))) ≤ maxLog = omega (arith, long, o .place, ok-length steps total, w .short, w .left) in
         record {
@@ -226,6 +211,7 @@ module _ {n : ℕ} {ys ns : List ℕ} {ch : ℕ} {table : List (List ℕ)} {c fa
         }
 
     -- what is written where nothing is left
-    pub logging-ended : {after : List ℕ} {size : ℕ} → stepOf (maskQuestion n ys ns ch table c known) ≡ nothingLeft → Put bytes at (okBytes steps total) after size
+    pub logging-ended : {after : List ℕ} {size : ℕ} → stepOf (maskQuestion n ys ns ch table c known) ≡ nothingLeft
+        → Put bytes at (okBytes steps total) after size
         → LogWritten (runOf (maskQuestion n ys ns ch table c facts)) before after (record { size = size; steps = steps; total = total })
     logging-ended e o = rw (run-done e) (written o)

@@ -1,29 +1,18 @@
 -- What the functions of the log ask and say.
 use mathlib.Core.Path.{_≡_}
 use mathlib.Core.List.{List, _++_, map}
-use Prim.Native.Nat.{ℕ, _+_, _≤_}
+use Prim.Native.Nat.{ℕ, _≤_}
 use lib.ListN.{length, drop}
-use lib.Seq.{sets}
-use Rattle.sets.specs.Sets.{has}
-use Rattle.literals.specs.Literal.{Literal, byteOf}
+use Rattle.literals.specs.Literal.{Literal}
 use Rattle.literals.specs.declared.LiteralSet.{LiteralSet}
-use Rattle.book.specs.Limits.{maxLog}
+use Rattle.records.specs.Limits.{maxLog}
 use Rattle.consequence.specs.Contracts.{maskTheory}
-use Rattle.step.specs.Meaning.{Step, literalOf}
+use Rattle.step.specs.Meaning.{Step}
 use Rattle.step.specs.IsStep.{ForcedBy}
 use Rattle.step.specs.Contracts.{Asked}
-use Rattle.log.specs.Format.{recordBytes, recordsBytes, logBytes}
+use Rattle.log_form.specs.Format.{recordBytes, recordsBytes, logBytes}
 use Rattle.log.specs.Meaning.{recordOf, costsWritten, logOf}
 use Rattle.log.specs.declared.Written.{Written}
-
--- The byte of a set's literal over variable v + 1, where the set says yes of `on`.
-abbrev pub memberByte : ℕ → ℕ → ℕ
-memberByte on v = byteOf (literalOf v (has on v))
-
--- Bytes are stored one after the other from a place on, every other byte is as it was, and r is the place after them.
-pub record Put (before : List ℕ) (at : ℕ) (bytes after : List ℕ) (r : ℕ) : Type 0 where
-  pub stored : after ≡ sets before at bytes
-  pub place : r ≡ at + length bytes
 
 -- A step as its record's writer is handed it.
 abbrev pub putStep : Literal → LiteralSet → LiteralSet → ℕ → Step

@@ -11,12 +11,13 @@ use Rattle.literals.specs.Truth.{holds, allHold}
 use Rattle.sat.specs.Meaning.{obeysRules}
 use Rattle.problem.specs.Problem.{Problem, literalCost}
 use Rattle.consequence.specs.Demand2.{OverChoice, Always}
-use Rattle.log.specs.Format.{StepRecord, Log, logBytes, isLog, readLog, risingOver}
+use Rattle.log_form.specs.Format.{StepRecord, Log, logBytes, isLog, readLog, risingOver}
 use Rattle.log.specs.Meaning.{costsWritten}
 
 -- ---- its words
 
--- A set of literals, also the empty one, forces a literal with the rules when that literal is true in every filling that obeys the rules and makes all of the set true.
+-- A set of literals, also the empty one, forces a literal with the rules when that literal is true in every filling that obeys the rules and makes
+-- all of the set true.
 pub record Forces (p : Problem) (set : List Literal) (l : Literal) : Type 0 where
   pub forces : (f : ℕ) → f < 2 ^ p .variables → obeysRules f (p .rules) ≡ true → allHold f set ≡ true → holds f l ≡ true
 

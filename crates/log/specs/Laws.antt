@@ -1,5 +1,7 @@
--- The laws of the log, by topic: bytes read back, lists of literals, what a step adds, demand 3. Assumes nothing.
-pub mod Reads
+-- The laws of the log, by topic: lists of literals and what they cost, what a step adds, demand 3 of one step and of the whole log.
+-- Assumes nothing.
 pub mod Lists
+pub mod Costs
 pub mod Growth
+pub mod OneStep
 pub mod Explains

@@ -1,4 +1,3 @@
-pub mod Format
 pub mod Meaning
 pub mod Demand3
 pub mod Contracts

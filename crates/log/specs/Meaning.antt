@@ -2,11 +2,11 @@
 use mathlib.Core.List.{List, [], _∷_, map}
 use Prim.Native.Nat.{ℕ, zero, suc, _+_}
 use lib.ListN.{length}
-use Rattle.sets.specs.Sets.{has, union, count, members}
-use Rattle.literals.specs.Literal.{Literal}
+use Rattle.sets.specs.Sets.{union, count}
+use Rattle.literals.specs.Literal.{literalsOf}
 use Rattle.problem.specs.Problem.{Problem, given}
-use Rattle.step.specs.Meaning.{Question, questionOf, goals, Step, nothingLeft, step, stepOf, literalOf}
-use Rattle.log.specs.Format.{StepRecord, Log}
+use Rattle.step.specs.Meaning.{Question, questionOf, goals, Step, nothingLeft, step, stepOf}
+use Rattle.log_form.specs.Format.{StepRecord, Log}
 
 -- ---- the steps of a log
 
@@ -36,10 +36,6 @@ unfoldable pub runFor : Problem → List Step
 runFor p = runOf (questionOf p (given p))
 
 -- ---- the log that they make
-
--- The literals of a set, rising by variable.
-unfoldable pub literalsOf : ℕ → ℕ → List Literal
-literalsOf on off = map (λ v. literalOf v (has on v)) (members (union on off))
 
 -- The ST record of a step.
 abbrev pub recordOf : Step → StepRecord

@@ -10,9 +10,11 @@ use Rattle.sets.specs.Sets.{count}
 use Rattle.literals.specs.declared.LiteralSet.{LiteralSet}
 use Rattle.step.specs.Meaning.{Question, Step, goals, stepOf, step, nothingLeft}
 use Rattle.step.specs.Contracts.{maskQuestion}
-use Rattle.log.specs.Contracts.{Put, putStep, stepBytes, LogAsked}
-use Rattle.log.proofs.RunLaws.{Logging, logging-none, logging-room, logging-more, logging-ended, end-room, step-open, goals-fewer, answered-step, answered-nothing}
-use Rattle.log.proofs.StoreLaws.{put-length}
+use Rattle.log.specs.Contracts.{putStep, stepBytes, LogAsked}
+use Rattle.log.proofs.RunLaws.{Logging, logging-none, logging-room, logging-more, logging-ended, end-room, step-open, goals-fewer, answered-step}
+use Rattle.log.proofs.RunLaws.{answered-nothing}
+use Rattle.log_form.proofs.StoreLaws.{put-length}
+use Rattle.log_form.specs.Contracts.{Put}
 use Rattle.log.proofs.write.Statement.{statement}
 use Rattle.log.proofs.write.Tie as tie
 
@@ -33,7 +35,8 @@ start c = c .before .before .before .before
 
 -- the step that was answered, in the arm that goes on, and that its goal is a signed byte, which is handed over by its bits
 abbrev taken : tie.After-known-told Inv-loop μ-loop → Step
-taken c = putStep (c .before .next .given .0 .0) (c .before .next .given .0 .1 .0) (c .before .next .given .0 .1 .1 .0) (c .before .next .given .0 .1 .1 .1 .0)
+taken c = putStep (c .before .next .given .0 .0) (c .before .next .given .0 .1 .0) (c .before .next .given .0 .1 .1 .0)
+    (c .before .next .given .0 .1 .1 .1 .0)
 
 abbrev turn : tie.After-known-told Inv-loop μ-loop → tie.At-loop Inv-loop μ-loop
 turn c = c .before .before .before .before
@@ -45,83 +48,40 @@ byte : (c : tie.After-known-told Inv-loop μ-loop) → toZ w8 (ofZ w8 (c .before
 byte c = toZ-ofZ {w = w8} (record { sfits = c .known-told .given .0 .1 })
 
 -- its record is stored
-stored : (c : tie.After-put-step Inv-loop μ-loop) → Put (turn (c .before .before) .loop .buffer) (turn (c .before .before) .loop .at) (stepBytes (taken (c .before .before))) (c .put-step .last .0) (c .put-step .result)
+stored : (c : tie.After-put-step Inv-loop μ-loop)
+    → Put (turn (c .before .before) .loop .buffer) (turn (c .before .before) .loop .at) (stepBytes (taken (c .before .before))) (c .put-step .last .0)
+    (c .put-step .result)
 stored c = rw (byte (c .before .before)) at (c .put-step .ensures)
 
 -- in the other arm nothing is left
-left : (c : tie.After-enum-told Inv-loop μ-loop) → stepOf (question (start (c .before .before .before)) (c .before .before .before .loop .known)) ≡ nothingLeft
+left : (c : tie.After-enum-told Inv-loop μ-loop) → stepOf (question (start (c .before .before .before)) (c .before .before .before .loop .known))
+    ≡ nothingLeft
 left c = answered-nothing _ (c .before .before .next-step .ensures) (c .enum-told .given .1)
-
-loop-holds : tie.Need-loop-holds Inv-loop μ-loop
-loop-holds c = (c .before .before .before .pre .0, logging-none _ (c .before .before .before .pre .1))
-
-next-step-requires : tie.Need-next-step-requires Inv-loop μ-loop
-next-step-requires c κs = c .loop .inv .1 .asked
-
-enum-known-next : tie.Need-enum-known-next Inv-loop μ-loop
-enum-known-next c = search needs
-
-enum-told : tie.Need-enum-told Inv-loop μ-loop
-enum-told c = search needs
-
-put-ok-requires : tie.Need-put-ok-requires Inv-loop μ-loop
-put-ok-requires c κs = omega (arith, end-room _ (c .before .before .before .before .loop .inv .1))
-
-same-length : tie.Need-same-length Inv-loop μ-loop
-same-length c = put-length _ (c .before .before .put-ok .ensures) ∙ put-length _ (c .before .before .before .before .before .before .before .loop .inv .1 .put)
-
-returns : tie.Need-returns Inv-loop μ-loop
-returns c = logging-ended _ (c .before .before .before .before .before .before .before .loop .inv .1) (left (c .before .before .before .before)) (c .before .before .put-ok .ensures)
-
-put-step-requires : tie.Need-put-step-requires Inv-loop μ-loop
-put-step-requires c κs = rw (byte (c .before)) (logging-room _ (turn (c .before) .loop .inv .1) (told (c .before)))
-
-union-requires : tie.Need-union-requires Inv-loop μ-loop
-union-requires c κs = search needs
-
-union-requires-2 : tie.Need-union-requires-2 Inv-loop μ-loop
-union-requires-2 c κs = search needs
 
 -- the arm that goes on, at its end
 abbrev arm : tie.After-union2 Inv-loop μ-loop → tie.After-known-told Inv-loop μ-loop
 arm c = c .before .before .before .before .before .before
 
-add-steps : tie.Need-add-steps Inv-loop μ-loop
-add-steps c = omega (arith, step-open _ (turn (arm c) .loop .inv .1) (told (arm c)))
-
-cast-total : tie.Need-cast-total Inv-loop μ-loop
-cast-total c = omega (arith, arm c .known-told .given)
-
-add-total : tie.Need-add-total Inv-loop μ-loop
-add-total c = omega (arith, arm c .known-told .given, turn (arm c) .loop .inv .1 .cheap, step-open _ (turn (arm c) .loop .inv .1) (told (arm c)))
-
-loop-again : tie.Need-loop-again Inv-loop μ-loop
-loop-again c = (
-  turn (arm c) .loop .inv .0,
-  logging-more _ (turn (arm c) .loop .inv .1) (told (arm c)) (omega (arith, arm c .known-told .given)) (stored (c .before .before .before .before)) (c .before .union .ensures) (c .union2 .ensures),
-)
-
-loop-less : tie.Need-loop-less Inv-loop μ-loop
-loop-less c = rw (c .before .union .ensures, c .union2 .ensures) (goals-fewer (turn (arm c) .loop .inv .0) (turn (arm c) .loop .inv .1 .asked) (told (arm c)))
-
 pub write-spec : {M : Type 1} → statement M
 write-spec =
-    tie.close
-    (tie.spec
-    Inv-loop
-    μ-loop
-    loop-holds
-    next-step-requires
-    enum-known-next
-    enum-told
-    put-ok-requires
-    same-length
-    returns
-    put-step-requires
-    union-requires
-    union-requires-2
-    add-steps
-    cast-total
-    add-total
-    loop-less
-    loop-again)
+    tie.close (tie.spec Inv-loop μ-loop (λ c. (c .before .before .before .pre .0, logging-none _ (c .before .before .before .pre .1)))
+    (λ c κs. c .loop .inv .1 .asked) (λ c. search needs) (λ c. search needs)
+    (λ c κs. omega (arith, end-room _ (c .before .before .before .before .loop .inv .1)))
+    (λ c.
+    let at = c .before .before .before .before .before .before .before in
+    put-length _ (c .before .before .put-ok .ensures) ∙ put-length _ (at .loop .inv .1 .put))
+    (λ c.
+    let at = c .before .before .before .before .before .before .before in
+    logging-ended _ (at .loop .inv .1) (left (c .before .before .before .before)) (c .before .before .put-ok .ensures))
+    (λ c κs. rw (byte (c .before)) (logging-room _ (turn (c .before) .loop .inv .1) (told (c .before)))) (λ c κs. search needs) (λ c κs. search needs)
+    (λ c. omega (arith, step-open _ (turn (arm c) .loop .inv .1) (told (arm c))))
+    (λ c. omega (arith, arm c .known-told .given))
+    (λ c. omega (arith, arm c .known-told .given, turn (arm c) .loop .inv .1 .cheap, step-open _ (turn (arm c) .loop .inv .1) (told (arm c))))
+    (λ c.
+    rw (c .before .union .ensures, c .union2 .ensures)
+    (goals-fewer (turn (arm c) .loop .inv .0) (turn (arm c) .loop .inv .1 .asked) (told (arm c))))
+    (λ c. (
+      turn (arm c) .loop .inv .0,
+      logging-more _ (turn (arm c) .loop .inv .1) (told (arm c)) (omega (arith, arm c .known-told .given)) (stored (c .before .before .before .before))
+          (c .before .union .ensures) (c .union2 .ensures),
+    )))

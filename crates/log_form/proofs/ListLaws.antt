@@ -1,40 +1,34 @@
 -- Writing a list of literals, member by member.
 -- Assumes nothing.
 use mathlib.Core.Path.{_≡_, refl, sym, ap, ap₂, _∙_}
-use mathlib.Core.List.{List, [], _∷_, _++_, map, map-append, append-assoc, append-nil}
+use mathlib.Core.List.{List, [], _∷_, _++_, map, map-map, map-append, append-assoc, append-nil}
 use Prim.Native.Nat.{ℕ, suc, _+_, _^_, _≤_, _<_}
 use native.Mathlib.Omega.{arith}
 use lib.ListN.{length, length-append, length-map}
 use Rattle.sets.specs.Sets.{has, union, count, members, remove, LeastMember, Lowest, width}
 use Rattle.sets.specs.Laws.Bits.{remove-lt}
 use Rattle.sets.specs.Laws.Count.{ones-remove}
-use Rattle.sets.specs.Laws.Members.{members-zero, members-length, members-below, members-least}
-use Rattle.literals.specs.Literal.{Literal, byteOf}
-use Rattle.step.specs.Meaning.{literalOf}
-use Rattle.log.specs.Format.{listBytes}
-use Rattle.log.specs.Meaning.{literalsOf}
-use Rattle.log.specs.Laws.Lists.{list-length-is}
-use Rattle.log.specs.Contracts.{memberByte, Put}
-use Rattle.log.proofs.StoreLaws.{put-append, put-none, put-length}
-
-map-twice : (f : Literal → ℕ) (g : ℕ → Literal) (xs : List ℕ) → map f (map g xs) ≡ map (λ v. f (g v)) xs
-map-twice f g [] = refl
-map-twice f g (x ∷ xs) = ap (λ l. f (g x) ∷ l) (map-twice f g xs)
+use Rattle.sets.specs.Laws.Members.{members-zero, members-below, members-least}
+use Rattle.literals.specs.Literal.{byteOf, literalsOf, literalOf}
+use Rattle.log_form.specs.Format.{listBytes}
+use Rattle.log_form.specs.Laws.Lists.{list-length-is, members-count}
+use Rattle.log_form.specs.Contracts.{memberByte, Put}
+use Rattle.log_form.proofs.StoreLaws.{put-append, put-none, put-length}
 
 -- the bytes of a list are the number and a byte for each member
 pub list-bytes : (on off : ℕ) → listBytes (literalsOf on off) ≡ count (union on off) ∷ map (memberByte on) (members (union on off))
 unfolding listBytes literalsOf
-list-bytes on off = ap₂ (λ (n : ℕ) (l : List ℕ). n ∷ l) (list-length-is on off) (map-twice byteOf (λ v. literalOf v (has on v)) (members (union on off)))
+list-bytes on off =
+    ap₂ (λ (n : ℕ) (l : List ℕ). n ∷ l) (list-length-is on off) (map-map byteOf (λ v. literalOf v (has on v)) (members (union on off)))
 
-pub members-count : (m : ℕ) → m < 2 ^ width → length (members m) ≡ count m
-members-count m h = ap length (sym (members-below width m h)) ∙ members-length width m h
-
-pub list-length : (on off : ℕ) → union on off < 2 ^ width → length (listBytes (literalsOf on off)) ≡ suc (count (union on off))
-list-length on off h = ap length (list-bytes on off) ∙ ap suc (length-map (members (union on off)) (memberByte on) ∙ members-count (union on off) h)
+pub list-length : (on off : ℕ) → length (listBytes (literalsOf on off)) ≡ suc (count (union on off))
+unfolding listBytes
+list-length on off = ap suc (length-map (literalsOf on off) byteOf ∙ list-length-is on off)
 
 -- the least member, and the others
 least-first : (m v : ℕ) → m < 2 ^ width → LeastMember m v → members m ≡ v ∷ members (remove m v)
-least-first m v h l = sym (members-below width m h) ∙ members-least width m v h l ∙ ap (λ r. v ∷ r) (members-below width (remove m v) (remove-lt width m v h))
+least-first m v h l = sym (members-below width m h) ∙ members-least width m v h l
+    ∙ ap (λ r. v ∷ r) (members-below width (remove m v) (remove-lt width m v h))
 
 none-left : members 0 ≡ []
 none-left = sym (members-below 0 0 (omega arith)) ∙ members-zero 0
@@ -76,13 +70,14 @@ module _ (out₀ : List ℕ) (start : ℕ) (f : ℕ → ℕ) (all : ℕ) where
       rw same (w .put)
 
 -- the number first, and then the members
-pub listed : {a b out : List ℕ} {at k i : ℕ} (on off : ℕ) → Put a at (count (union on off) ∷ []) b k → Put b k (map (memberByte on) (members (union on off))) out i
+pub listed : {a b out : List ℕ} {at k i : ℕ} (on off : ℕ) → Put a at (count (union on off) ∷ []) b k
+    → Put b k (map (memberByte on) (members (union on off))) out i
     → Put a at (listBytes (literalsOf on off)) out i
 listed on off p q = rw (list-bytes on off) (put-append (count (union on off) ∷ []) (map (memberByte on) (members (union on off))) p q)
 
-module _ (a : List ℕ) (at on off : ℕ) (below : union on off < 2 ^ width) (room : at + length (listBytes (literalsOf on off)) ≤ length a) where
+module _ (a : List ℕ) (at on off : ℕ) (room : at + length (listBytes (literalsOf on off)) ≤ length a) where
   pub number-room : at < length a
-  number-room = omega (arith, list-length on off below)
+  number-room = omega (arith, list-length on off)
 
   pub members-room : {b : List ℕ} {x k : ℕ} → Put a at (x ∷ []) b k → k + length (members (union on off)) ≤ length b
-  members-room {x = x} p = omega (arith, list-length on off below, members-count (union on off) below, p .place, put-length (x ∷ []) p)
+  members-room {x = x} p = omega (arith, list-length on off, members-count (union on off), p .place, put-length (x ∷ []) p)

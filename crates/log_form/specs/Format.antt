@@ -6,7 +6,7 @@ use lib.Dec.{eqb, leb, ltb}
 use lib.ListN.{length, getD, take, drop}
 use Rattle.sets.specs.Sets.{has}
 use Rattle.literals.specs.Literal.{Literal, variable, ofByte, byteOf}
-use Rattle.book.specs.Limits.{okSize}
+use Rattle.records.specs.Limits.{okSize}
 
 -- ---- what a log says
 

@@ -1,32 +1,28 @@
 -- Writing and reading a log: a log that bytes can hold is read back from its bytes, and bytes that are read as a log are that log's bytes.
 -- Assumes nothing.
-use mathlib.Core.Path.{_≡_, refl, sym, ap, ap₂, _∙_}
-use mathlib.Core.Logic.{by-cases}
+use mathlib.Core.Path.{_≡_, refl, ap, ap₂}
 use mathlib.Core.Bool.{Bool, true, false, cond, _&&_}
 use mathlib.Core.List.{List, [], _∷_, _++_, map, append-assoc}
 use Prim.Native.Nat.{ℕ, zero, suc, _+_, _-_, _*_, _/_, _%_, _^_, _≤_, _<_}
 use native.Mathlib.Nat.{div-div-eq-div-mul}
-use native.Mathlib.Decide.{decLt}
 use native.Mathlib.Omega.{arith}
-use borrow.Author.Tests.{lt-ltb, le-ltb, le-leb, leb-true, eqb-true}
 use lib.Dec.{eqb, leb, ltb}
 use lib.IntN.{pos, negsuc}
-use lib.ListN.{length, getD, take, drop, length-append, length-map, length-take, take-append-drop, drop-of-length-le, List·getD-eq-default}
-use lib.Seq.{take-at, drop-at, drop-cons, length-take-le, getD-take, getD-drop}
+use lib.ListN.{length, getD, length-append, length-map}
+use lib.Seq.{take-at, drop-at}
+use borrow.Author.Tests.{lt-ltb, le-ltb, le-leb, eqb-true}
 use Rattle.sets.specs.Sets.{has}
 use Rattle.sets.specs.Laws.Bits.{member-lt}
 use Rattle.sets.specs.Laws.Subset.{has-true}
 use Rattle.literals.specs.Literal.{Literal, variable, ofByte, byteOf}
-use Rattle.sat.specs.Laws.Rules.{and-both}
-use Rattle.log.specs.Format.{StepRecord, Log, ST, OK, twoBytes, fourBytes, listBytes, recordBytes, recordsBytes, okBytes, logBytes, Parsed, parsed, malformed, andParse, parseBytes, begins, risingOver, parseList, parseRecord, LogRead, isLog, notLog, withRecord, readEnd, readRecords, readLog}
+use Rattle.literals.specs.Laws.{and-both}
+use Rattle.log_form.specs.Format.{StepRecord, Log, ST, OK, twoBytes, fourBytes, listBytes, recordBytes, recordsBytes, okBytes, logBytes, Parsed, parsed}
+use Rattle.log_form.specs.Format.{malformed, parseBytes, begins, risingOver, parseList, parseRecord, LogRead, isLog, notLog, withRecord, readEnd}
+use Rattle.log_form.specs.Format.{readRecords, readLog}
+use Rattle.log_form.specs.Laws.Parsing.{Each, Bytes, literal-back, map-back, two-written, four-written, all-elements, Ensures, of-parsed, of-malformed}
+use Rattle.log_form.specs.Laws.Parsing.{ensures-cond, ensures-and, cut, begins-with}
 
 -- ---- what bytes can hold
-
-module _ {A : Type 0} where
-  -- P holds of each element.
-  abbrev pub Each : (A → Type 0) → List A → Type 0
-  Each P [] = Unit {0}
-  Each P (x ∷ xs) = P x × Each P xs
 
 -- A record whose bytes are read back as it: its goal is over a variable up to 127, its lists rise strictly over choices, its cost fits two bytes.
 pub record Fits (choices : ℕ) (r : StepRecord) : Type 0 where
@@ -129,112 +125,6 @@ one-log choices l k below f g e = cc (read-written choices l below f, read-writt
 
 -- ---- what is read was written
 
--- Each of s is a byte.
-abbrev pub Bytes : List ℕ → Type 0
-Bytes s = (i : ℕ) → getD s i 0 < 256
-
--- What holds of a record that was read: its goal and the literals of its lists are signed bytes, its lists rise strictly over choices, its cost
--- fits two bytes.
-pub record RecordReadFits (choices : ℕ) (r : StepRecord) : Type 0 where
-  pub goal-fits : variable (r .goal) ≤ 128
-  pub reasons-fit : Each (λ l. variable l ≤ 128) (r .reasons)
-  pub reasons-rise : risingOver choices 0 (r .reasons) ≡ true
-  pub new-fit : Each (λ l. variable l ≤ 128) (r .new)
-  pub new-rise : risingOver choices 0 (r .new) ≡ true
-  pub cost-fits : r .cost < 65536
-
--- What holds of a log that was read.
-pub record ReadFits (choices : ℕ) (l : Log) : Type 0 where
-  pub each : Each (RecordReadFits choices) (l .records)
-  pub steps-fit : l .steps < 256
-  pub total-fits : l .total < 4294967296
-
--- the literal of a byte: its byte, and its variable
-pub literal-back : (b : ℕ) → b < 256 → (byteOf (ofByte b) ≡ b) × (variable (ofByte b) ≤ 128)
-unfolding ofByte byteOf variable
-literal-back b h =
-    by-cases (decLt b 128)
-    (λ l. rw (lt-ltb b 128 l) (refl, omega arith))
-    (λ l. rw (le-ltb b 128 (omega arith)) (omega arith, omega arith))
-
--- and of each byte of a list
-map-back : (s : List ℕ) → Bytes s → (map byteOf (map ofByte s) ≡ s) × Each (λ l. variable l ≤ 128) (map ofByte s)
-map-back [] b = (refl, tt)
-map-back (x ∷ s) b =
-    let one = literal-back x (b 0) in
-    let others = map-back s (λ i. b (suc i)) in
-    (ap₂ (λ y t. y ∷ t) (one .0) (others .0), (one .1, others .1))
-
--- the bytes of a number read from two bytes, and from four
-two-written : (x y : ℕ) → x < 256 → y < 256 → twoBytes (256 * x + y) ≡ x ∷ y ∷ []
-unfolding twoBytes
-two-written x y h k = ap₂ (λ a b. a ∷ b ∷ []) (omega arith) (omega arith)
-
-four-written : (w x y z : ℕ) → w < 256 → x < 256 → y < 256 → z < 256
-    → fourBytes (16777216 * w + 65536 * x + 256 * y + z) ≡ w ∷ x ∷ y ∷ z ∷ []
-unfolding fourBytes
-four-written w x y z hw hx hy hz =
-    ap₂ (λ a b. a ++ b)
-    (ap₂ (λ a b. a ∷ b ∷ []) (omega arith) (omega arith))
-    (ap₂ (λ a b. a ∷ b ∷ []) (omega arith) (omega arith))
-
--- The n elements from i on. Where n is a numeral this computes to a list with each element written out.
-abbrev elements : ℕ → ℕ → List ℕ → List ℕ
-elements zero i s = []
-elements (suc n) i s = getD s i 0 ∷ elements n (suc i) s
-
--- they are all that is left, where the list has no more
-all-elements : (n i : ℕ) (s : List ℕ) → length s ≡ n + i → drop i s ≡ elements n i s
-all-elements zero i s e = drop-of-length-le s {i = i} (omega arith)
-all-elements (suc n) i s e = drop-cons s i 0 (omega arith) ∙ ap (λ t. getD s i 0 ∷ t) (all-elements n (suc i) s (omega arith))
-
--- Q holds of what is parsed and of the bytes after it, unless the bytes are not of the form.
-data Ensures {A : Type 0} (Q : A → List ℕ → Type 0) : Parsed A → Type 0 where
-  of-parsed : {a : A} {rest : List ℕ} → Q a rest → Ensures Q (parsed a rest)
-  of-malformed : Ensures Q malformed
-
-module _ {A : Type 0} {Q : A → List ℕ → Type 0} where
-  ensures-cond : (t : Bool) (a : A) (rest : List ℕ) → (t ≡ true → Q a rest) → Ensures Q (cond t (parsed a rest) malformed)
-  ensures-cond true a rest h = of-parsed (h refl)
-  ensures-cond false a rest h = of-malformed
-
-  ensures-and : {B : Type 0} {R : B → List ℕ → Type 0} {p : Parsed A} {next : A → List ℕ → Parsed B}
-      → Ensures Q p → ((a : A) (rest : List ℕ) → Q a rest → Ensures R (next a rest)) → Ensures R (andParse p next)
-  ensures-and (of-parsed q) k = k _ _ q
-  ensures-and of-malformed k = of-malformed
-
-take-bytes : (n : ℕ) (s : List ℕ) → Bytes s → Bytes (take n s)
-take-bytes n s b i =
-    by-cases (decLt i n)
-    (λ l. rw (getD-take n s i 0 l) (b i))
-    (λ l. rw (List·getD-eq-default (take n s) 0 {n = i} (omega (arith, length-take n s))) (omega arith))
-
-drop-bytes : (n : ℕ) (s : List ℕ) → Bytes s → Bytes (drop n s)
-drop-bytes n s b i = rw (getD-drop n s i 0) (b (n + i))
-
--- The first n bytes, and those after them.
-record Cut (n : ℕ) (s front rest : List ℕ) : Type 0 where
-  whole : s ≡ front ++ rest
-  size : length front ≡ n
-  front-bytes : Bytes front
-  rest-bytes : Bytes rest
-
-cut : (n : ℕ) (s : List ℕ) → Bytes s → Ensures (Cut n s) (parseBytes n s)
-unfolding parseBytes
-cut n s b = ensures-cond _ _ _ (λ e. record {
-  whole = sym (take-append-drop n s);
-  size = length-take-le n s (leb-true n (length s) e);
-  front-bytes = take-bytes n s b;
-  rest-bytes = drop-bytes n s b;
-})
-
--- the two bytes of a mark
-begins-with : (mark s : List ℕ) → begins mark s ≡ true → (getD s 0 0 ≡ getD mark 0 0) × (getD s 1 0 ≡ getD mark 1 0)
-unfolding begins
-begins-with mark s e =
-    let both = and-both (leb 2 (length s) && eqb (getD s 0 0) (getD mark 0 0)) (eqb (getD s 1 0) (getD mark 1 0)) e in
-    (eqb-true _ _ (and-both (leb 2 (length s)) _ (both .0) .1), eqb-true _ _ (both .1))
-
 -- What the seven bytes of OK are read as.
 abbrev ok-read : List ℕ → Log
 ok-read s = record { records = []; steps = getD s 2 0; total = 16777216 * getD s 3 0 + 65536 * getD s 4 0 + 256 * getD s 5 0 + getD s 6 0 }
@@ -243,8 +133,6 @@ module _ (choices : ℕ) where
   -- A list of literals, and the bytes after it.
   record ListRead (s : List ℕ) (ls : List Literal) (rest : List ℕ) : Type 0 where
     whole : s ≡ listBytes ls ++ rest
-    fit : Each (λ l. variable l ≤ 128) ls
-    rise : risingOver choices 0 ls ≡ true
     rest-bytes : Bytes rest
 
   list-read : (s : List ℕ) → Bytes s → Ensures (ListRead s) (parseList choices s)
@@ -253,17 +141,14 @@ module _ (choices : ℕ) where
       ensures-and (cut 1 s b) (λ n rest c.
       ensures-and (cut (getD n 0 0) rest (c .rest-bytes)) (λ bs end d.
       let back = map-back bs (d .front-bytes) in
-      ensures-cond _ _ _ (λ e. record {
+      ensures-cond (risingOver choices 0 (map ofByte bs)) _ _ (λ e. record {
         whole = cc (all-elements 1 0 n (c .size), length-map bs ofByte);
-        fit = back .1;
-        rise = e;
         rest-bytes = d .rest-bytes;
       })))
 
   -- An ST record, and the bytes after it.
   record RecordAt (s : List ℕ) (r : StepRecord) (rest : List ℕ) : Type 0 where
     whole : s ≡ recordBytes r ++ rest
-    read : RecordReadFits choices r
     rest-bytes : Bytes rest
 
   record-at : (s : List ℕ) → Bytes s → begins ST s ≡ true → Ensures (RecordAt s) (parseRecord choices s)
@@ -283,25 +168,12 @@ module _ (choices : ℕ) where
           append-assoc (listBytes reasons ++ listBytes new) (twoBytes (256 * getD cost 0 0 + getD cost 1 0)) rest,
           append-assoc (listBytes reasons) (listBytes new) (twoBytes (256 * getD cost 0 0 + getD cost 1 0) ++ rest),
         );
-        read = record {
-          goal-fits = goal .1;
-          reasons-fit = p .fit;
-          reasons-rise = p .rise;
-          new-fit = q .fit;
-          new-rise = q .rise;
-          cost-fits = omega (arith, c .front-bytes 0, c .front-bytes 1);
-        };
         rest-bytes = c .rest-bytes;
       })))))
 
-  -- A log, and no byte more.
-  record LogAt (s : List ℕ) (l : Log) : Type 0 where
-    whole : s ≡ logBytes l
-    read : ReadFits choices l
-
   -- What the bytes s are read as is correct: where it is a log, they are that log's.
   data Correct (s : List ℕ) : LogRead → Type 0 where
-    of-log : {l : Log} → LogAt s l → Correct s (isLog l)
+    of-log : {l : Log} → s ≡ logBytes l → Correct s (isLog l)
     of-no-log : {place : ℕ} → Correct s (notLog place)
 
   correct-cond : {s : List ℕ} (t : Bool) (x y : LogRead) → (t ≡ true → Correct s x) → Correct s y → Correct s (cond t x y)
@@ -315,20 +187,17 @@ module _ (choices : ℕ) where
       (λ m.
       let begun = begins-with OK s (and-both (begins OK s) _ m .0) in
       correct-cond (eqb (length s) 7) _ _
-      (λ e. of-log {l = ok-read s} (record {
-        whole = cc (all-elements 7 0 s (eqb-true (length s) 7 e), four-written (getD s 3 0) (getD s 4 0) (getD s 5 0) (getD s 6 0) (b 3) (b 4) (b 5) (b 6));
-        read = record { each = tt; steps-fit = b 2; total-fits = omega (arith, b 3, b 4, b 5, b 6) };
-      }))
+      (λ e. of-log {l = ok-read s}
+      (cc (all-elements 7 0 s (eqb-true (length s) 7 e), four-written (getD s 3 0) (getD s 4 0) (getD s 5 0) (getD s 6 0) (b 3) (b 4) (b 5) (b 6))))
       of-no-log)
       of-no-log
 
   -- one record, and a log after it
   with-record : {s rest : List ℕ} {r : StepRecord} {m : LogRead} → RecordAt s r rest → Correct rest m → Correct s (withRecord r m)
   unfolding logBytes recordsBytes
-  with-record {r = r} a (of-log {l} t) = of-log {l = record { records = r ∷ l .records; steps = l .steps; total = l .total }} (record {
-    whole = cc (append-assoc (recordBytes r) (recordsBytes (l .records)) (okBytes (l .steps) (l .total)));
-    read = record { each = (a .read, t .read .each); steps-fit = t .read .steps-fit; total-fits = t .read .total-fits };
-  })
+  with-record {r = r} a (of-log {l} t) =
+      of-log {l = record { records = r ∷ l .records; steps = l .steps; total = l .total }}
+      (cc (append-assoc (recordBytes r) (recordsBytes (l .records)) (okBytes (l .steps) (l .total))))
   with-record a of-no-log = of-no-log
 
   -- one turn: a record, and what the bytes after it are read as
@@ -346,16 +215,10 @@ module _ (choices : ℕ) where
   records-read zero place s b = of-no-log
   records-read (suc turns) place s b = correct-cond _ _ _ (λ m. record-read turns place (record-at s b m) (records-read turns)) (end-read place s b)
 
-  log-at : (s : List ℕ) (l : Log) → Bytes s → readLog choices s ≡ isLog l → LogAt s l
-  unfolding readLog
-  log-at s l b e = told (rw e at (records-read (suc (length s)) 0 s b))
-    where
-      told : Correct s (isLog l) → LogAt s l
-      told (of-log t) = t
-
-  -- bytes that are read as a log are that log's bytes, and the log is one that bytes can hold
+  -- bytes that are read as a log are that log's bytes
   pub read-form : (s : List ℕ) (l : Log) → Bytes s → readLog choices s ≡ isLog l → s ≡ logBytes l
-  read-form s l b e = log-at s l b e .whole
-
-  pub read-fits : (s : List ℕ) (l : Log) → Bytes s → readLog choices s ≡ isLog l → ReadFits choices l
-  read-fits s l b e = log-at s l b e .read
+  unfolding readLog
+  read-form s l b e = told (rw e at (records-read (suc (length s)) 0 s b))
+    where
+      told : Correct s (isLog l) → s ≡ logBytes l
+      told (of-log t) = t

@@ -1,0 +1,3 @@
+pub mod Format
+pub mod Contracts
+pub mod Laws
