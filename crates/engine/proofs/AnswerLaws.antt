@@ -1,14 +1,18 @@
 -- The answers on one model and on the consequence, from what the inner functions found.
 -- Assumes nothing.
 use mathlib.Core.Path.{_≡_, refl, sym, ap, ap₂, subst, _∙_}
-use mathlib.Core.Bool.{Bool, true, false, not, cond, true≢false, false≢true}
+use mathlib.Core.Bool.{Bool, true, false, cond, true≢false}
 use mathlib.Core.List.{List}
 use Prim.Native.Nat.{ℕ, _^_, _<_}
 use native.Mathlib.Omega.{arith}
+use borrow.Author.Tests.{not-true, not-false}
 use Rattle.literals.specs.declared.LiteralSet.{LiteralSet}
-use Rattle.book.specs.Format.{Read, value, refused, OrderBook, readBook}
-use Rattle.book.specs.Answer.{maskedBook}
+use Rattle.records.specs.Format.{Read, value, refused, OrderBook, readBook}
+use Rattle.book.specs.Answer.{maskedBook, bookAnswer}
 use Rattle.book.proofs.WellFormed.{WellFormed, well-formed}
+use Rattle.book.specs.declared.Reading.{Reading}
+use Rattle.book.specs.declared.Verdict.the-variants as Verdict
+use Rattle.book.proofs.PartLaws.{book-refused}
 use Rattle.sat.specs.Laws.Fillings.{witness-some}
 use Rattle.problem.specs.Problem.{problemOf, given}
 use Rattle.problem.specs.Masked.{maskedFrom}
@@ -21,40 +25,36 @@ use Rattle.consequence.specs.Laws.Masks.{to-theory, none-to-theory}
 use Rattle.consequence.specs.Laws.Problems.{model-models, no-filling, consequence-demand}
 use Rattle.consequence.specs.declared.Consequence.{Consequence}
 use Rattle.consequence.specs.declared.Consequence.the-variants as Consequence
-use Rattle.engine.specs.Calls.{withModel, ModelSays, consequenceAnswer, FillsIn, ConsequenceCall}
+use Rattle.engine.specs.Calls.{withModel, ModelSays, consequenceAnswer, FillsIn, ConsequenceCall, ModelCall}
 use Rattle.engine.specs.Contracts.{yesIn, noIn, theoryIn, FoundModel, FoundForced}
 use Rattle.engine.specs.declared.ModelAnswer.{ModelAnswer}
 use Rattle.engine.specs.declared.ModelAnswer.the-variants as ModelAnswer
 use Rattle.engine.specs.declared.ConsequenceAnswer.{ConsequenceAnswer}
 use Rattle.engine.specs.declared.ConsequenceAnswer.the-variants as ConsequenceAnswer
-use Rattle.engine.proofs.NineLaws.{nine-exactly}
-use Rattle.engine.proofs.ProblemLaws.{theory-same, forced-same, contradicts-has}
+use Rattle.engine.proofs.NineLaws.{nine-exactly, model-call}
+use Rattle.engine.proofs.ProblemLaws.{theory-same, forced-same, contradicts-has, Taken, same-problem}
 
 -- what `consequence::propagate` says of the problem, in the call's answer
 module _ (p : MaskedProblem) {r : Consequence} (c : Concluded (p .variables) (yesIn p) (noIn p) (p .choices) (p .facts .yes) (p .facts .no) r) where
   pub forced-found : {two : LiteralSet} → r ≡ Consequence.Forced two → FoundForced p (ConsequenceAnswer.Forced two)
-  forced-found e = let s = (rw e at c) .said in record { said = (s .0, ap₂ (λ (y : ℕ) (n : ℕ). record { yes = y; no = n }) (s .1 .yes-forced) (s .1 .no-forced)) }
+  forced-found e = let s = (rw e at c) .said in record {
+    said =
+        (s .0, ap₂ (λ (y : ℕ) (n : ℕ). record { yes = y; no = n }) (s .1 .yes-forced) (s .1 .no-forced));
+  }
 
   pub none-found : r ≡ Consequence.NoModel → FoundForced p (ConsequenceAnswer.Refused 9 0)
   none-found e = record { said = (refl, refl, (rw e at c) .said) }
-
--- a test that fails, and one that passes
-not-true-is : (h : Bool) → true ≡ not h → h ≡ false
-not-true-is true e = absurd (true≢false e)
-not-true-is false e = refl
-
-not-false-is : (h : Bool) → false ≡ not h → h ≡ true
-not-false-is true e = refl
-not-false-is false e = absurd (false≢true e)
 
 module _ {b : OrderBook} (w : WellFormed b) (end : ℕ) where
   -- ---- one model
 
   -- a model of the code's arguments is a model of the book
-  found-model : (f : ℕ) → ModelOf (theoryIn (maskedFrom (maskedBook b))) (maskedFrom (maskedBook b) .facts .yes) (maskedFrom (maskedBook b) .facts .no) f → models (problemOf b) f ≡ true
+  found-model : (f : ℕ) → ModelOf (theoryIn (maskedFrom (maskedBook b))) (maskedFrom (maskedBook b) .facts .yes) (maskedFrom (maskedBook b) .facts .no) f
+      → models (problemOf b) f ≡ true
   unfolding problemOf
   found-model f m =
-      model-models (problemOf b) (proper-book w .facts-proper) f (subst (λ (t : Theory). ModelOf t (given (problemOf b) .yes) (given (problemOf b) .no) f) (theory-same w) m)
+      model-models (problemOf b) (proper-book w .facts-proper) f
+      (subst (λ (t : Theory). ModelOf t (given (problemOf b) .yes) (given (problemOf b) .no) f) (theory-same w) m)
 
   found-has : (f : ℕ) → f < 2 ^ problemOf b .variables → models (problemOf b) f ≡ true → hasModel (problemOf b) ≡ true
   unfolding hasModel
@@ -68,17 +68,17 @@ module _ {b : OrderBook} (w : WellFormed b) (end : ℕ) where
         λ h. absurd (true≢false (sym (found-has m (f .said .below) e) ∙ h)),
       )
   model-says (ModelAnswer.Refused number place) f =
-      let none = sym (none-contradicts _ _ _ (none-to-theory _ (f .said .2))) ∙ contradicts-has w in
-      (λ h. absurd (true≢false (sym h ∙ not-true-is _ none)), λ h. ap₂ ModelAnswer.Refused (f .said .0) (f .said .1))
+      let none = sym (contradicts-has w) ∙ none-contradicts _ _ _ (none-to-theory _ (f .said .2)) in
+      (λ h. absurd (true≢false (sym h ∙ not-true _ none)), λ h. ap₂ ModelAnswer.Refused (f .said .0) (f .said .1))
 
   -- ---- the consequence
 
   pub consequence-says : (r : ConsequenceAnswer) → FoundForced (maskedFrom (maskedBook b)) r → r ≡ consequenceAnswer (value b end)
   unfolding consequenceAnswer withModel
   consequence-says (ConsequenceAnswer.Forced two) f =
-      rw (not-false-is (hasModel (problemOf b)) (sym (f .said .0) ∙ contradicts-has w)) (ap ConsequenceAnswer.Forced (f .said .1 ∙ forced-same w))
+      rw (not-false (hasModel (problemOf b)) (sym (contradicts-has w) ∙ f .said .0)) (ap ConsequenceAnswer.Forced (f .said .1 ∙ forced-same w))
   consequence-says (ConsequenceAnswer.Refused number place) f =
-      rw (not-true-is (hasModel (problemOf b)) (sym (f .said .2) ∙ contradicts-has w)) (ap₂ ConsequenceAnswer.Refused (f .said .0) (f .said .1))
+      rw (not-true (hasModel (problemOf b)) (sym (contradicts-has w) ∙ f .said .2)) (ap₂ ConsequenceAnswer.Refused (f .said .0) (f .said .1))
 
 -- demand 2 of the answer
 fills-in : (s : List ℕ) (m : Read OrderBook) → readBook s ≡ m → (r : ConsequenceAnswer) → r ≡ consequenceAnswer m → FillsIn m r
@@ -86,7 +86,8 @@ unfolding consequenceAnswer withModel
 fills-in s (refused number place) e r c = c
 fills-in s (value b end) e r c = go r (hasModel (problemOf b)) refl c
   where
-    go : (r : ConsequenceAnswer) (h : Bool) → hasModel (problemOf b) ≡ h → r ≡ cond h (ConsequenceAnswer.Forced (consequenceOf (problemOf b))) (ConsequenceAnswer.Refused 9 0)
+    go : (r : ConsequenceAnswer) (h : Bool) → hasModel (problemOf b) ≡ h
+        → r ≡ cond h (ConsequenceAnswer.Forced (consequenceOf (problemOf b))) (ConsequenceAnswer.Refused 9 0)
         → FillsIn (value b end) r
     go (ConsequenceAnswer.Forced two) true m d =
         let same : two ≡ consequenceOf (problemOf b) = cc in rw same (consequence-demand (problemOf b) (proper-book (well-formed s e) .choices-below))
@@ -96,7 +97,31 @@ fills-in s (value b end) e r c = go r (hasModel (problemOf b)) refl c
 
 pub consequence-call : {s : List ℕ} {r : ConsequenceAnswer} → r ≡ consequenceAnswer (readBook s) → ConsequenceCall s r
 unfolding consequenceAnswer
-consequence-call {s} {r} e = record { said = e; demand-2 = fills-in s (readBook s) refl r e; nine = rw e (nine-exactly (λ p. ConsequenceAnswer.Forced (consequenceOf p)) ConsequenceAnswer.Refused (λ n m p q d. cc) (λ p at d. other (consequenceOf p) d) (Unit {0}) s) }
+consequence-call {s} {r} e = record {
+  said = e;
+  demand-2 = fills-in s (readBook s) refl r e;
+  nine =
+      rw e (nine-exactly (λ p. ConsequenceAnswer.Forced (consequenceOf p)) ConsequenceAnswer.Refused (λ n m p q d. cc) (λ p at d. other (consequenceOf p) d)
+      (Unit {0}) s);
+}
   where
     other : (two : LiteralSet) {at : ℕ} → ConsequenceAnswer.Forced two ≡ ConsequenceAnswer.Refused 9 at → ⊥
     other two d = let z : _≡_ {A = ℕ} 0 1 = cc in omega arith
+
+-- ---- the calls, where the book is refused and where it is accepted
+
+module _ {s : List ℕ} {r : Reading} where
+  pub model-refused : {n p : ℕ} → r ≡ bookAnswer (readBook s) → r .verdict ≡ Verdict.Refused n p → ModelCall s (ModelAnswer.Refused n p)
+  model-refused e f = model-call (rw (book-refused (readBook s) e f) refl)
+
+  pub consequence-refused : {n p : ℕ} → r ≡ bookAnswer (readBook s) → r .verdict ≡ Verdict.Refused n p
+      → ConsequenceCall s (ConsequenceAnswer.Refused n p)
+  unfolding consequenceAnswer withModel
+  consequence-refused e f = consequence-call (rw (book-refused (readBook s) e f) refl)
+
+  module _ (t : Taken s r) {p : MaskedProblem} (e : p ≡ maskedFrom (r .book)) where
+    pub model-taken : {a : ModelAnswer} → FoundModel p a → ModelCall s a
+    model-taken {a} f = model-call (rw (t .read .said) (model-says (t .well) (t .read .end) a (rw (same-problem t e) at f)))
+
+    pub consequence-taken : {a : ConsequenceAnswer} → FoundForced p a → ConsequenceCall s a
+    consequence-taken {a} f = consequence-call (rw (t .read .said) (consequence-says (t .well) (t .read .end) a (rw (same-problem t e) at f)))

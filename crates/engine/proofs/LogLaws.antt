@@ -9,12 +9,14 @@ use lib.Dec.{ltb}
 use lib.ListN.{length, drop}
 use lib.Seq.{take-at}
 use borrow.Author.Tests.{lt-ltb, le-ltb, ltb-true}
-use Rattle.sets.specs.Laws.Subset.{within-refl}
 use Rattle.literals.specs.declared.LiteralSet.{LiteralSet}
-use Rattle.book.specs.Limits.{maxLog}
-use Rattle.book.specs.Format.{Read, value, refused, OrderBook, readBook}
-use Rattle.book.specs.Answer.{maskedBook, table}
+use Rattle.records.specs.Limits.{maxLog}
+use Rattle.records.specs.Format.{Read, value, refused, OrderBook, readBook}
+use Rattle.book.specs.Answer.{maskedBook, table, bookAnswer, tableAnswer}
 use Rattle.book.proofs.WellFormed.{WellFormed, well-formed}
+use Rattle.book.specs.declared.Reading.{Reading}
+use Rattle.book.specs.declared.Verdict.the-variants as Verdict
+use Rattle.book.proofs.PartLaws.{book-refused}
 use Rattle.problem.specs.Problem.{problemOf, given}
 use Rattle.problem.specs.Masked.{maskedFrom}
 use Rattle.problem.specs.declared.MaskedProblem.{MaskedProblem}
@@ -23,18 +25,21 @@ use Rattle.consequence.specs.Meaning.{models, hasModel, Theory, contradicts}
 use Rattle.consequence.specs.Laws.Problems.{no-filling}
 use Rattle.step.specs.Meaning.{asking, Step}
 use Rattle.step.specs.Laws.Given as facts
-use Rattle.log.specs.Format.{Log, logBytes, isLog, readLog}
+use Rattle.step.specs.Laws.Known.{cond-not}
+use Rattle.log_form.specs.Format.{Log, logBytes, isLog, readLog}
 use Rattle.log.specs.Meaning.{runOf, runFor, logOf}
 use Rattle.log.specs.Demand3.{Explained}
 use Rattle.log.specs.Contracts.{totalOf, LogWritten}
 use Rattle.log.specs.Laws.Explains.{explained, reads-back}
 use Rattle.log.specs.declared.Written.{Written}
-use Rattle.engine.specs.Calls.{withModel, NineExactly, LogOutcome, logged, refusedWith, logOutcome, logAnswer, bufferAfter, LoggedAs, Explains, LogCall}
+use Rattle.log.specs.Laws.OneStep.{forced}
+use Rattle.engine.specs.Calls.{withModel, NineExactly, LogOutcome, logged, refusedWith, logOutcome, logAnswer, bufferAfter, LoggedAs, Explains}
+use Rattle.engine.specs.Calls.{LogCall}
 use Rattle.engine.specs.Contracts.{theoryIn, forcedIn, Loggable, LogReady, logIn}
 use Rattle.engine.specs.declared.LogAnswer.{LogAnswer}
 use Rattle.engine.specs.declared.LogAnswer.the-variants as LogAnswer
 use Rattle.engine.proofs.NineLaws.{nine-exactly}
-use Rattle.engine.proofs.ProblemLaws.{cond-swap, theory-same, forced-same, contradicts-has}
+use Rattle.engine.proofs.ProblemLaws.{theory-same, forced-same, contradicts-has, Taken, same-problem, same-costs}
 use Rattle.engine.proofs.StepLaws.{forced-by, asked-of}
 
 -- ---- what `log::write` answers, passed on
@@ -53,13 +58,7 @@ module _ (p : MaskedProblem) (costs : List (List ℕ)) (w : Loggable p costs) (s
       record {
         searchable = w .steppable .searchable;
         asked = record {
-          asked = asked-of p costs (w .steppable) some (p .facts)
-              (record {
-                facts-yes = within-refl _;
-                facts-no = within-refl _;
-                known-yes = facts.yes-given below (forced-by p) (w .yes-facts);
-                known-no = facts.no-given below (forced-by p) (w .no-facts);
-              });
+          asked = asked-of p costs (w .steppable) some (p .facts) (facts.given-between below (forced-by p) (w .yes-facts) (w .no-facts));
           forced = forced-by p;
         };
       }
@@ -79,12 +78,13 @@ module _ {b : OrderBook} (w : WellFormed b) where
 
   pub log-says : (end room : ℕ) → maxLog ≤ room → logIn (maskedFrom (maskedBook b)) (table (b .costs)) ≡ logOutcome room (value b end)
   unfolding logIn logOutcome withModel runFor outcomeBy problemOf
-  log-says end room l = rw (contradicts-has w, le-ltb _ _ l) (ap₂ outcomeBy (theory-same w) (forced-same w) ∙ cond-swap (hasModel (problemOf b)) _ _)
+  log-says end room l = rw (contradicts-has w, le-ltb _ _ l) (ap₂ outcomeBy (theory-same w) (forced-same w) ∙ cond-not (hasModel (problemOf b)) _ _)
 
 -- ---- demand 3
 
 -- of the bytes that the buffer begins with
-explains-logged : (b : OrderBook) (end : ℕ) (ss : List Step) {before after : List ℕ} {r : LogAnswer} → Explained (problemOf b) (logBytes (logOf ss)) (length ss) (totalOf ss)
+explains-logged : (b : OrderBook) (end : ℕ) (ss : List Step) {before after : List ℕ} {r : LogAnswer}
+    → Explained (problemOf b) (logBytes (logOf ss)) (length ss) (totalOf ss)
     → LoggedAs (logged (logOf ss)) before after r → Explains (value b end) before after r
 unfolding logAnswer bufferAfter
 explains-logged b end ss {before} x l = rw (l .answered, l .buffer, take-at (logBytes (logOf ss)) (drop (length (logBytes (logOf ss))) before) _ refl) x
@@ -102,7 +102,8 @@ module _ {b : OrderBook} (w : WellFormed b) (end : ℕ) {before after : List ℕ
   explains l = room (ltb (length before) maxLog) (hasModel (problemOf b)) refl refl l
     where
       room : (t h : Bool) → ltb (length before) maxLog ≡ t → hasModel (problemOf b) ≡ h
-          → LoggedAs (cond t (refusedWith 8 0) (cond h (logged (logOf (runFor (problemOf b)))) (refusedWith 9 0))) before after r → Explains (value b end) before after r
+          → LoggedAs (cond t (refusedWith 8 0) (cond h (logged (logOf (runFor (problemOf b)))) (refusedWith 9 0))) before after r
+          → Explains (value b end) before after r
       room true h t m l = explains-none b end (λ f x y k. omega (arith, k, ltb-true (length before) maxLog t)) l
       room false false t m l = explains-none b end (λ f x y k. no-filling (problemOf b) m .none f x y) l
       room false true t m l = explains-logged b end (runFor (problemOf b)) (explained (proper-book w) m) l
@@ -113,7 +114,8 @@ pub outcome-reads : (s : List ℕ) (room : ℕ) {l : Log} → logOutcome room (r
 unfolding logOutcome withModel
 outcome-reads s room {l} o = go (readBook s) refl o
   where
-    at-book : (b : OrderBook) → WellFormed b → (t h : Bool) → hasModel (problemOf b) ≡ h → cond t (refusedWith 8 0) (cond h (logged (logOf (runFor (problemOf b)))) (refusedWith 9 0)) ≡ logged l
+    at-book : (b : OrderBook) → WellFormed b → (t h : Bool) → hasModel (problemOf b) ≡ h
+        → cond t (refusedWith 8 0) (cond h (logged (logOf (runFor (problemOf b)))) (refusedWith 9 0)) ≡ logged l
         → (choices : ℕ) × (readLog choices (logBytes l) ≡ isLog l)
     at-book b w true h m d = let z : _≡_ {A = ℕ} 0 1 = cc in absurd (omega arith)
     at-book b w false false m d = let z : _≡_ {A = ℕ} 0 1 = cc in absurd (omega arith)
@@ -129,15 +131,18 @@ outcome-reads s room {l} o = go (readBook s) refl o
 module _ (s : List ℕ) (room : ℕ) where
   log-nine : NineExactly LogAnswer.Refused (maxLog ≤ room) (readBook s) (logAnswer (logOutcome room (readBook s)))
   unfolding withModel logOutcome logAnswer
-  log-nine = go (readBook s) refl (nine-exactly (λ p. logAnswer (logged (logOf (runFor p)))) LogAnswer.Refused (λ n m p q d. cc) (λ p at d. let z : _≡_ {A = ℕ} 0 1 = cc in absurd (omega arith)) (maxLog ≤ room) s)
+  log-nine = go (readBook s) refl (nine-exactly (λ p. logAnswer (logged (logOf (runFor p)))) LogAnswer.Refused (λ n m p q d. cc)
+      (λ p at d. let z : _≡_ {A = ℕ} 0 1 = cc in absurd (omega arith)) (maxLog ≤ room) s)
     where
       both : (h : Bool) (x : LogOutcome) → logAnswer (cond h x (refusedWith 9 0)) ≡ cond h (logAnswer x) (LogAnswer.Refused 9 0)
       both true x = refl
       both false x = refl
 
       at-book : (b : OrderBook) (end : ℕ) (t : Bool) → ltb room maxLog ≡ t
-          → NineExactly LogAnswer.Refused (maxLog ≤ room) (value b end) (cond (hasModel (problemOf b)) (logAnswer (logged (logOf (runFor (problemOf b))))) (LogAnswer.Refused 9 0))
-          → NineExactly LogAnswer.Refused (maxLog ≤ room) (value b end) (logAnswer (cond t (refusedWith 8 0) (cond (hasModel (problemOf b)) (logged (logOf (runFor (problemOf b)))) (refusedWith 9 0))))
+          → NineExactly LogAnswer.Refused (maxLog ≤ room) (value b end)
+          (cond (hasModel (problemOf b)) (logAnswer (logged (logOf (runFor (problemOf b))))) (LogAnswer.Refused 9 0))
+          → NineExactly LogAnswer.Refused (maxLog ≤ room) (value b end)
+          (logAnswer (cond t (refusedWith 8 0) (cond (hasModel (problemOf b)) (logged (logOf (runFor (problemOf b)))) (refusedWith 9 0))))
       at-book b end true e x =
           record {
             nine-none = λ at d. let z : _≡_ {A = ℕ} 8 9 = cc in absurd (omega arith);
@@ -145,7 +150,8 @@ module _ (s : List ℕ) (room : ℕ) where
           }
       at-book b end false e x = rw (both (hasModel (problemOf b)) (logged (logOf (runFor (problemOf b))))) x
 
-      go : (m : Read OrderBook) → readBook s ≡ m → NineExactly LogAnswer.Refused (maxLog ≤ room) m (withModel (λ p. logAnswer (logged (logOf (runFor p)))) LogAnswer.Refused m)
+      go : (m : Read OrderBook) → readBook s ≡ m → NineExactly LogAnswer.Refused (maxLog ≤ room) m
+          (withModel (λ p. logAnswer (logged (logOf (runFor p)))) LogAnswer.Refused m)
           → NineExactly LogAnswer.Refused (maxLog ≤ room) m (logAnswer (logOutcome room m))
       go (refused n p) e x = x
       go (value b end) e x = at-book b end (ltb room maxLog) refl x
@@ -156,14 +162,18 @@ module _ {s before after : List ℕ} {r : LogAnswer} where
   log-call : Explains (readBook s) before after r → LoggedAs (logOutcome (length before) (readBook s)) before after r → LogCall s before after r
   log-call x l = record { said = l; demand-3 = x; nine = rw (l .answered) (log-nine s (length before)) }
 
-  pub logged-of : {b : OrderBook} {end : ℕ} → WellFormed b → readBook s ≡ value b end → LoggedAs (logOutcome (length before) (value b end)) before after r → LogCall s before after r
-  logged-of {b} {end} w e l = log-call (rw e (explains w end l)) (rw e l)
+  pub log-taken : {g : Reading} {p : MaskedProblem} {costs : List (List ℕ)} → Taken s g → p ≡ maskedFrom (g .book)
+      → costs ≡ tableAnswer (λ b. b .costs) (readBook s) → maxLog ≤ length before → LoggedAs (logIn p costs) before after r → LogCall s before after r
+  log-taken t e c room l =
+      let said = rw (log-says (t .well) (t .read .end) (length before) room) at (rw (same-problem t e, same-costs t e c) at l) in
+      log-call (rw (t .read .said) (explains (t .well) (t .read .end) said)) (rw (t .read .said) said)
 
 module _ {s before : List ℕ} where
-  pub refused-of : {n p : ℕ} → readBook s ≡ refused n p → LogCall s before before (LogAnswer.Refused n p)
+  pub log-refused : {r : Reading} {n p : ℕ} → r ≡ bookAnswer (readBook s) → r .verdict ≡ Verdict.Refused n p
+      → LogCall s before before (LogAnswer.Refused n p)
   unfolding logOutcome
-  refused-of {n} {p} e = log-call (rw e refl) (rw e (logged-refused n p before))
+  log-refused {n = n} {p} e f = let no-book = book-refused (readBook s) e f in log-call (rw no-book refl) (rw no-book (logged-refused n p before))
 
-  pub short-of : {b : OrderBook} {end : ℕ} → readBook s ≡ value b end → length before < maxLog → LogCall s before before (LogAnswer.Refused 8 0)
+  pub log-short : {r : Reading} → Taken s r → length before < maxLog → LogCall s before before (LogAnswer.Refused 8 0)
   unfolding logOutcome
-  short-of e l = log-call (rw e (λ f x y k. omega (arith, l))) (rw (e, lt-ltb _ _ l) (logged-refused 8 0 before))
+  log-short t l = log-call (rw (t .read .said) (λ f x y k. omega (arith, l))) (rw (t .read .said, lt-ltb _ _ l) (logged-refused 8 0 before))

@@ -5,7 +5,7 @@ use mathlib.Core.Bool.{Bool, true, false, cond}
 use mathlib.Core.List.{List}
 use Prim.Native.Nat.{ℕ}
 use native.Mathlib.Omega.{arith}
-use Rattle.book.specs.Format.{Read, value, refused, OrderBook, readBook}
+use Rattle.records.specs.Format.{Read, value, refused, OrderBook, readBook}
 use Rattle.book.proofs.NumberLaws.{reader-numbers}
 use Rattle.problem.specs.Problem.{Problem, problemOf}
 use Rattle.consequence.specs.Meaning.{hasModel}
@@ -24,7 +24,8 @@ none-has p n = go (hasModel p) refl
     go false e = refl
 
 -- `refuse` tells its numbers apart, and no answer on a problem is a refusal with 9
-module _ {A : Type 0} (answer : Problem → A) (refuse : ℕ → ℕ → A) (number-of : (n m p q : ℕ) → refuse n p ≡ refuse m q → n ≡ m) (other : (p : Problem) (place : ℕ) → answer p ≡ refuse 9 place → ⊥) where
+module _ {A : Type 0} (answer : Problem → A) (refuse : ℕ → ℕ → A) (number-of : (n m p q : ℕ) → refuse n p ≡ refuse m q → n ≡ m)
+    (other : (p : Problem) (place : ℕ) → answer p ≡ refuse 9 place → ⊥) where
   nine-then : (due : Type 0) (s : List ℕ) (m : Read OrderBook) → readBook s ≡ m → NineExactly refuse due m (withModel answer refuse m)
   unfolding withModel
   nine-then due s (refused number place) e =
@@ -43,13 +44,15 @@ module _ {A : Type 0} (answer : Problem → A) (refuse : ℕ → ℕ → A) (num
 model-nine : (s : List ℕ) (r : ModelAnswer) (m : Read OrderBook) → readBook s ≡ m → ModelSays m r → NineExactly ModelAnswer.Refused (Unit {0}) m r
 model-nine s r (refused number place) e c =
     record {
-      nine-none = λ at d. let same : ModelAnswer.Refused number place ≡ ModelAnswer.Refused 9 at = sym c ∙ d in let k : number ≡ 9 = cc in omega (arith, reader-numbers s e);
+      nine-none = λ at d. let same : ModelAnswer.Refused number place ≡ ModelAnswer.Refused 9 at = sym c ∙ d in let k : number ≡ 9 = cc in
+          omega (arith, reader-numbers s e);
       none-nine = λ u n. absurd n;
     }
 model-nine s r (value b end) e c = record { nine-none = λ at d. go at d (hasModel (problemOf b)) refl; none-nine = λ u n. c .1 (none-has (problemOf b) n) }
   where
     go : (at : ℕ) → r ≡ ModelAnswer.Refused 9 at → (h : Bool) → hasModel (problemOf b) ≡ h → NoFilling (problemOf b)
-    go at d true m = let x = c .0 m in let same : ModelAnswer.Model (x .filling) ≡ ModelAnswer.Refused 9 at = sym (x .answered) ∙ d in let z : _≡_ {A = ℕ} 0 1 = cc in absurd (omega arith)
+    go at d true m = let x = c .0 m in let same : ModelAnswer.Model (x .filling) ≡ ModelAnswer.Refused 9 at = sym (x .answered) ∙ d in
+        let z : _≡_ {A = ℕ} 0 1 = cc in absurd (omega arith)
     go at d false m = no-filling _ m
 
 pub model-call : {s : List ℕ} {r : ModelAnswer} → ModelSays (readBook s) r → ModelCall s r

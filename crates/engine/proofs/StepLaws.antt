@@ -5,15 +5,19 @@ use mathlib.Core.Bool.{Bool, true, false, not, cond, _&&_, false≢true}
 use mathlib.Core.List.{List}
 use Prim.Native.Nat.{ℕ, _^_, _<_}
 use native.Mathlib.Omega.{arith}
-use borrow.Author.Tests.{not-true, not-false}
 use lib.IntN.{ℤ}
-use lib.Seq.{length-take-le}
+use borrow.Author.Tests.{not-true, not-false}
 use Rattle.sets.specs.Sets.{subset}
 use Rattle.sets.specs.Laws.Subset.{subset-within, within-subset}
 use Rattle.literals.specs.declared.LiteralSet.{LiteralSet}
-use Rattle.book.specs.Format.{Read, value, refused, OrderBook, readBook}
-use Rattle.book.specs.Answer.{maskedBook, table}
+use Rattle.literals.specs.Laws.{and-both}
+use Rattle.records.specs.Format.{Read, value, refused, OrderBook, readBook}
+use Rattle.book.specs.Answer.{maskedBook, table, bookAnswer, tableAnswer}
 use Rattle.book.proofs.WellFormed.{WellFormed, well-formed}
+use Rattle.book.specs.declared.Reading.{Reading}
+use Rattle.book.specs.declared.Verdict.the-variants as Verdict
+use Rattle.book.proofs.PartLaws.{book-refused}
+use Rattle.sat.specs.Laws.Assigns.{posed-with}
 use Rattle.problem.specs.Problem.{Problem, problemOf, given}
 use Rattle.problem.specs.Masked.{maskedFrom}
 use Rattle.problem.specs.Proper.{ProperProblem}
@@ -21,7 +25,7 @@ use Rattle.problem.proofs.BookLaws.{proper-book}
 use Rattle.problem.specs.declared.MaskedProblem.{MaskedProblem}
 use Rattle.consequence.specs.Meaning.{models, hasModel, consequenceOf, Theory, theoryOf, contradicts}
 use Rattle.consequence.specs.Laws.Masks.{to-theory, of-theory}
-use Rattle.consequence.specs.Laws.Problems.{has-contradicts, yes-consequence, no-consequence, no-filling}
+use Rattle.consequence.specs.Laws.Problems.{no-filling}
 use Rattle.step.specs.Meaning.{asking, questionOf, Answer, Step, nothingLeft, step, stepOf}
 use Rattle.step.specs.IsStep.{ForcedBy, Between, Sound, IsStep}
 use Rattle.step.specs.Theorems.{step-is, left-known}
@@ -29,6 +33,11 @@ use Rattle.step.specs.Contracts.{Asked, nextOf}
 use Rattle.step.specs.declared.Next.{Next}
 use Rattle.step.specs.declared.Next.the-variants as Next
 use Rattle.step.specs.Laws.Given as facts
+use Rattle.step.specs.Laws.Known.{cond-not}
+use Rattle.log.specs.Contracts.{putStep}
+use Rattle.log.specs.Laws.OneStep.{choices-below, forced}
+use Rattle.log.specs.Laws.Explains.{consistent}
+use Rattle.log.proofs.RunLaws.{of-parts}
 use Rattle.engine.specs.Calls.{withModel, between, stepSays, stepFor, stepAnswer, IsNext, StepCall}
 use Rattle.engine.specs.Contracts.{yesIn, noIn, theoryIn, forcedIn, FoundForced, stepIn, Steppable, StepReady}
 use Rattle.engine.specs.declared.ConsequenceAnswer.{ConsequenceAnswer}
@@ -36,7 +45,7 @@ use Rattle.engine.specs.declared.ConsequenceAnswer.the-variants as Conse
 use Rattle.engine.specs.declared.StepAnswer.{StepAnswer}
 use Rattle.engine.specs.declared.StepAnswer.the-variants as StepAnswer
 use Rattle.engine.proofs.NineLaws.{nine-exactly}
-use Rattle.engine.proofs.ProblemLaws.{cond-swap, theory-same, forced-same, contradicts-has}
+use Rattle.engine.proofs.ProblemLaws.{theory-same, forced-same, contradicts-has, Taken, same-problem, same-costs, rules-short}
 
 -- ---- the flag of a test
 
@@ -84,15 +93,16 @@ forced-by p = record { yes-forced = refl; no-forced = refl }
 
 lies : (facts known forced : LiteralSet) → between facts known forced ≡ true → Between facts known forced
 unfolding between
-lies facts known forced e = go (subset (facts .yes) (known .yes)) (subset (facts .no) (known .no)) (subset (known .yes) (forced .yes)) (subset (known .no) (forced .no)) refl refl refl refl e
-  where
-    go : (w x y z : Bool) → subset (facts .yes) (known .yes) ≡ w → subset (facts .no) (known .no) ≡ x → subset (known .yes) (forced .yes) ≡ y → subset (known .no) (forced .no) ≡ z
-        → w && x && y && z ≡ true → Between facts known forced
-    go true true true true a b c d t = record { facts-yes = subset-within _ _ a; facts-no = subset-within _ _ b; known-yes = subset-within _ _ c; known-no = subset-within _ _ d }
-    go true true true false a b c d t = absurd (false≢true t)
-    go true true false z a b c d t = absurd (false≢true t)
-    go true false y z a b c d t = absurd (false≢true t)
-    go false x y z a b c d t = absurd (false≢true t)
+lies facts known forced e =
+    let last = and-both (subset (facts .yes) (known .yes) && subset (facts .no) (known .no) && subset (known .yes) (forced .yes)) _ e in
+    let third = and-both (subset (facts .yes) (known .yes) && subset (facts .no) (known .no)) _ (last .0) in
+    let first = and-both (subset (facts .yes) (known .yes)) _ (third .0) in
+    record {
+      facts-yes = subset-within _ _ (first .0);
+      facts-no = subset-within _ _ (first .1);
+      known-yes = subset-within _ _ (third .1);
+      known-no = subset-within _ _ (last .1);
+    }
 
 lies-between : (facts known forced : LiteralSet) → Between facts known forced → between facts known forced ≡ true
 unfolding between
@@ -107,21 +117,14 @@ module _ (p : MaskedProblem) (costs : List (List ℕ)) (w : Steppable p costs) (
       let forced = forced-by p in
       let model = facts.consequence-has below forced some in
       record {
-        posed = record {
-          small = w .searchable .posed .small;
-          paired = w .searchable .posed .paired;
-          yes-masks = w .searchable .posed .yes-masks;
-          no-masks = w .searchable .posed .no-masks;
-          on-below = facts.yes-below below forced;
-          off-below = facts.no-below below forced;
-          apart = facts.consequence-apart below forced some;
-        };
+        posed = posed-with (w .searchable .posed) (facts.exact below forced true .below) (facts.exact below forced false .below)
+            (facts.consequence-apart below forced some);
         few = w .few;
-        short = omega (arith, length-take-le (p .rules) (p .yes) (omega (arith, w .searchable .few-rules, w .searchable .yes-room)), w .searchable .few-rules);
+        short = rules-short (w .searchable);
         choices-below = below;
         rows = w .rows;
-        yes-choices = facts.yes-choices below forced;
-        no-choices = facts.no-choices below forced;
+        yes-choices = facts.over-choices below forced true;
+        no-choices = facts.over-choices below forced false;
         known-yes = b .known-yes;
         known-no = b .known-no;
         model = (model .0, of-theory _ (model .1));
@@ -143,25 +146,21 @@ module _ {b : OrderBook} (w : WellFormed b) where
 
   pub step-says : (end on off : ℕ) → stepIn (maskedFrom (maskedBook b)) (table (b .costs)) (record { yes = on; no = off }) ≡ stepAnswer on off (value b end)
   unfolding stepIn stepAnswer stepFor withModel answerBy problemOf
-  step-says end on off = rw (contradicts-has w) (ap₂ (answerBy (record { yes = on; no = off })) (theory-same w) (forced-same w) ∙ cond-swap (hasModel (problemOf b)) _ _)
+  step-says end on off = rw (contradicts-has w) (ap₂ (answerBy (record { yes = on; no = off })) (theory-same w) (forced-same w)
+      ∙ cond-not (hasModel (problemOf b)) _ _)
 
 -- ---- the step for every filling
-
--- the parts of a step's answer, put together again
-stepOfParts : ℤ → LiteralSet → LiteralSet → ℕ → Step
-stepOfParts goal reasons new cost =
-    record { goal = goal; reasons-on = reasons .yes; reasons-off = reasons .no; new-on = new .yes; new-off = new .no; cost = cost }
 
 module _ {p : Problem} (w : ProperProblem p) (some : hasModel p ≡ true) where
   -- a known set between the given facts and the consequence can be asked about
   sound-between : (known : LiteralSet) → between (given p) known (consequenceOf p) ≡ true → Sound (questionOf p known)
   unfolding theoryOf
   sound-between known b =
-      facts.between-sound (w .choices-below) (record { yes-forced = yes-consequence p (w .facts-proper); no-forced = no-consequence p (w .facts-proper) })
-      (not-true _ (sym (has-contradicts p (w .facts-proper)) ∙ some)) (p .costs) (lies _ _ _ b)
+      facts.between-sound (choices-below w) (forced w) (consistent w some) (p .costs) (lies _ _ _ b)
 
-is-next : (s : List ℕ) (known : LiteralSet) (m : Read OrderBook) → readBook s ≡ m → (r : StepAnswer) → r ≡ stepAnswer (known .yes) (known .no) m → IsNext m known r
-unfolding stepAnswer stepFor withModel stepSays stepOfParts
+is-next : (s : List ℕ) (known : LiteralSet) (m : Read OrderBook) → readBook s ≡ m → (r : StepAnswer) → r ≡ stepAnswer (known .yes) (known .no) m
+    → IsNext m known r
+unfolding stepAnswer stepFor withModel stepSays
 is-next s known (refused number place) e r c = c
 is-next s known (value b end) e r c = by (hasModel p) refl (between (given p) known (consequenceOf p)) refl (stepOf (questionOf p known)) refl r c
   where
@@ -173,19 +172,17 @@ is-next s known (value b end) e r c = by (hasModel p) refl (between (given p) kn
 
     says : (a : Answer) → stepOf (questionOf p known) ≡ a → Sound (questionOf p known) → (r : StepAnswer) → r ≡ stepSays a → IsNext (value b end) known r
     says (step x) d z (StepAnswer.Step g rs new cost) f =
-        let i : x .goal ≡ g = cc in
-        let j : record { yes = x .reasons-on; no = x .reasons-off } ≡ rs = cc in
-        let k : record { yes = x .new-on; no = x .new-off } ≡ new = cc in
-        let l : x .cost ≡ cost = cc in
-        let same : x ≡ stepOfParts g rs new cost = rw (← i, ← j, ← k, ← l) refl in
+        let same : x ≡ putStep g rs new cost = of-parts (cc) (cc) (cc) (cc) in
         subst (IsStep (questionOf p known)) same (step-is (questionOf p known) z x d)
     says (step x) d z StepAnswer.NothingLeft f = let n : _≡_ {A = ℕ} 0 1 = cc in absurd (omega arith)
     says nothingLeft d z (StepAnswer.Step g rs new cost) f = let n : _≡_ {A = ℕ} 0 1 = cc in absurd (omega arith)
-    says nothingLeft d z StepAnswer.NothingLeft f = let l = left-known (questionOf p known) z d in ap₂ (λ (y : ℕ) (n : ℕ). record { yes = y; no = n }) (l .0) (l .1)
+    says nothingLeft d z StepAnswer.NothingLeft f = let l = left-known (questionOf p known) z d in
+        ap₂ (λ (y : ℕ) (n : ℕ). record { yes = y; no = n }) (l .0) (l .1)
     says nothingLeft d z (StepAnswer.Refused number place) f = let n : _≡_ {A = ℕ} 0 1 = cc in absurd (omega arith)
     says (step x) d z (StepAnswer.Refused number place) f = let n : _≡_ {A = ℕ} 0 1 = cc in absurd (omega arith)
 
-    refuses : (n : ℕ) → ((f : ℕ) → f < 2 ^ p .variables → models p f ≡ true → Between (given p) known (consequenceOf p) → ⊥) → (r : StepAnswer) → r ≡ StepAnswer.Refused n 0
+    refuses : (n : ℕ) → ((f : ℕ) → f < 2 ^ p .variables → models p f ≡ true → Between (given p) known (consequenceOf p) → ⊥) → (r : StepAnswer)
+        → r ≡ StepAnswer.Refused n 0
         → IsNext (value b end) known r
     refuses n why (StepAnswer.Step g rs new cost) f = let z : _≡_ {A = ℕ} 0 1 = cc in absurd (omega arith)
     refuses n why StepAnswer.NothingLeft f = let z : _≡_ {A = ℕ} 0 1 = cc in absurd (omega arith)
@@ -206,8 +203,27 @@ no-nine (step x) d = let z : _≡_ {A = ℕ} 0 1 = cc in omega arith
 
 pub step-call : {s : List ℕ} {on off : ℕ} {r : StepAnswer} → r ≡ stepAnswer on off (readBook s) → StepCall s on off r
 unfolding stepAnswer stepFor
-step-call {s} {on} {off} {r} e = record { said = e; is-next = is-next s (record { yes = on; no = off }) (readBook s) refl r e; nine = rw e (nine-exactly (stepFor (record { yes = on; no = off })) StepAnswer.Refused (λ n m p q d. cc) (λ p at d. other p (between (given p) (record { yes = on; no = off }) (consequenceOf p)) d) (Unit {0}) s) }
+step-call {s} {on} {off} {r} e = record {
+  said = e;
+  is-next = is-next s (record { yes = on; no = off }) (readBook s) refl r e;
+  nine =
+      rw e (nine-exactly (stepFor (record { yes = on; no = off })) StepAnswer.Refused (λ n m p q d. cc)
+      (λ p at d. other p (between (given p) (record { yes = on; no = off }) (consequenceOf p)) d) (Unit {0}) s);
+}
   where
-    other : (p : Problem) (k : Bool) {at : ℕ} → cond k (stepSays (stepOf (questionOf p (record { yes = on; no = off })))) (StepAnswer.Refused 10 0) ≡ StepAnswer.Refused 9 at → ⊥
+    other : (p : Problem) (k : Bool) {at : ℕ} → cond k (stepSays (stepOf (questionOf p (record { yes = on; no = off })))) (StepAnswer.Refused 10 0)
+        ≡ StepAnswer.Refused 9 at → ⊥
     other p true d = no-nine _ d
     other p false d = let z : _≡_ {A = ℕ} 10 9 = cc in omega arith
+
+-- ---- the call, where the book is refused and where it is accepted
+
+module _ {s : List ℕ} {r : Reading} {on off : ℕ} where
+  pub step-refused : {n p : ℕ} → r ≡ bookAnswer (readBook s) → r .verdict ≡ Verdict.Refused n p → StepCall s on off (StepAnswer.Refused n p)
+  unfolding stepAnswer withModel
+  step-refused e f = step-call (rw (book-refused (readBook s) e f) refl)
+
+  pub step-taken : {p : MaskedProblem} {costs : List (List ℕ)} {a : StepAnswer} → Taken s r → p ≡ maskedFrom (r .book)
+      → costs ≡ tableAnswer (λ b. b .costs) (readBook s) → a ≡ stepIn p costs (record { yes = on; no = off }) → StepCall s on off a
+  step-taken t e c f =
+      step-call (rw (t .read .said) ((rw (same-problem t e, same-costs t e c) at f) ∙ step-says (t .well) (t .read .end) on off))

@@ -8,14 +8,14 @@ use lib.Dec.{ltb}
 use lib.ListN.{length, take, drop}
 use Rattle.sets.specs.Sets.{subset}
 use Rattle.literals.specs.declared.LiteralSet.{LiteralSet}
-use Rattle.book.specs.Limits.{maxLog}
-use Rattle.book.specs.Format.{Read, value, refused, OrderBook, readBook}
+use Rattle.records.specs.Limits.{maxLog}
+use Rattle.records.specs.Format.{Read, value, refused, OrderBook, readBook}
 use Rattle.problem.specs.Problem.{Problem, problemOf, given}
 use Rattle.consequence.specs.Meaning.{models, hasModel, consequenceOf}
 use Rattle.consequence.specs.Demand2.{Demand2, NoFilling}
 use Rattle.step.specs.Meaning.{questionOf, Answer, nothingLeft, step, stepOf}
 use Rattle.step.specs.IsStep.{Between, IsStep}
-use Rattle.log.specs.Format.{Log, logBytes}
+use Rattle.log_form.specs.Format.{Log, logBytes}
 use Rattle.log.specs.Meaning.{runFor, logOf}
 use Rattle.log.specs.Demand3.{Explained}
 use Rattle.engine.specs.declared.ModelAnswer.{ModelAnswer}
@@ -92,7 +92,8 @@ stepSays (step s) = StepAnswer.Step (s .goal) (record { yes = s .reasons-on; no 
 
 -- A known set lies between the given facts and the consequence.
 unfoldable pub between : LiteralSet → LiteralSet → LiteralSet → Bool
-between facts known forced = subset (facts .yes) (known .yes) && subset (facts .no) (known .no) && subset (known .yes) (forced .yes) && subset (known .no) (forced .no)
+between facts known forced =
+    subset (facts .yes) (known .yes) && subset (facts .no) (known .no) && subset (known .yes) (forced .yes) && subset (known .no) (forced .no)
 
 -- The step from a known set, or 10.
 unfoldable pub stepFor : LiteralSet → Problem → StepAnswer
@@ -107,7 +108,8 @@ stepAnswer on off m = withModel (stepFor (record { yes = on; no = off })) StepAn
 -- book is refused only where no filling is a model or the known set does not lie between the given facts and the consequence.
 abbrev pub IsNext : Read OrderBook → LiteralSet → StepAnswer → Type 0
 IsNext (value b end) known (StepAnswer.Step goal reasons new cost) =
-    IsStep (questionOf (problemOf b) known) (record { goal = goal; reasons-on = reasons .yes; reasons-off = reasons .no; new-on = new .yes; new-off = new .no; cost = cost })
+    IsStep (questionOf (problemOf b) known)
+    (record { goal = goal; reasons-on = reasons .yes; reasons-off = reasons .no; new-on = new .yes; new-off = new .no; cost = cost })
 IsNext (value b end) known StepAnswer.NothingLeft = known ≡ consequenceOf (problemOf b)
 IsNext (value b end) known (StepAnswer.Refused number place) =
     (f : ℕ) → f < 2 ^ problemOf b .variables → models (problemOf b) f ≡ true → Between (given (problemOf b)) known (consequenceOf (problemOf b)) → ⊥
@@ -149,7 +151,8 @@ pub record LoggedAs (o : LogOutcome) (before after : List ℕ) (r : LogAnswer) :
 -- Demand 3: what stands in the buffer at exit is such a log; and where some filling is a model and the buffer is long enough, a log is written.
 abbrev pub Explains : Read OrderBook → List ℕ → List ℕ → LogAnswer → Type 0
 Explains (value b end) before after (LogAnswer.Written size steps total) = Explained (problemOf b) (take size after) steps total
-Explains (value b end) before after (LogAnswer.Refused number place) = (f : ℕ) → f < 2 ^ problemOf b .variables → models (problemOf b) f ≡ true → maxLog ≤ length before → ⊥
+Explains (value b end) before after (LogAnswer.Refused number place) =
+    (f : ℕ) → f < 2 ^ problemOf b .variables → models (problemOf b) f ≡ true → maxLog ≤ length before → ⊥
 Explains (refused number place) before after r = r ≡ LogAnswer.Refused number place
 
 -- The contract of `log`.

@@ -6,7 +6,7 @@ use Prim.Native.Nat.{ℕ, _^_, _≤_, _<_}
 use lib.ListN.{length, take}
 use Rattle.sets.specs.Sets.{Within}
 use Rattle.literals.specs.declared.LiteralSet.{LiteralSet}
-use Rattle.book.specs.Limits.{maxVariables, maxChoices, maxCost}
+use Rattle.records.specs.Limits.{maxVariables, maxChoices, maxCost}
 use Rattle.sat.specs.Meaning.{Model, NoModel}
 use Rattle.sat.specs.Contracts.{Posed}
 use Rattle.problem.specs.Limits.{mostRules}

@@ -5,20 +5,24 @@ use Prim.Native.Nat.{ℕ}
 use lib.Count.{ones, trailingZeros}
 use lib.IntN.{pos, negsuc}
 use Rattle.sets.specs.Sets.{bit, has, insert, subset, disjoint, diff, membersFrom, membersBelow, members}
-use Rattle.literals.specs.Literal.{variable, ofByte, byteOf}
+use Rattle.literals.specs.Literal.{variable, ofByte, byteOf, literalsOf}
 use Rattle.literals.specs.Truth.{holds, obeys, allHold, yesBit, noBit, yesMask, noMask, allHoldMasks}
 use Rattle.literals.specs.declared.LiteralSet.{LiteralSet}
-use Rattle.book.specs.Limits.{maxLog}
-use Rattle.book.specs.Format.{marked, pair, isCost, opened, rising, headerValues, headerAt, costValues, costAt, ruleValues, ruleAt, factValues, factAt, atFact, endAt, many, factsFrom, fromRules, Read, OrderBook, readBook}
+use Rattle.records.specs.Limits.{maxLog}
+use Rattle.records.specs.Format.{marked, pair, isCost, opened, rising, headerValues, headerAt, costValues, costAt, ruleValues, ruleAt, factValues}
+use Rattle.records.specs.Format.{factAt, atFact, endAt, many, factsFrom, fromRules, Read, OrderBook, readBook}
 use Rattle.book.specs.Answer.{table, padded}
 use Rattle.book.specs.Orders.{order-a, order-b, order-c, order-d, order-e, order-f, order-g, order-h, order-i, order-j}
 use Rattle.sat.specs.Meaning.{everyUnder, everyFilling, someFilling, obeysRules, isModel}
 use Rattle.problem.specs.Problem.{problemOf, costOf}
-use Rattle.consequence.specs.Meaning.{models, hasModel, follows, collect, yesConsequence, noConsequence, theoryOf, obeying, contradicts, forcesYes, forcesNo, yesForced, noForced}
+use Rattle.consequence.specs.Meaning.{models, hasModel, follows, collect, yesConsequence, noConsequence, theoryOf, obeying, contradicts, forcesYes}
+use Rattle.consequence.specs.Meaning.{forcesNo, yesForced, noForced}
 use Rattle.items.specs.Weights.{sumBelow}
-use Rattle.step.specs.Meaning.{Question, setCost, yesGoals, noGoals, goals, goalLiteral, reasonsOn, reasonsOff, againstOn, againstOff, refutes, isCandidate, candidateCost, before, earlier, firstOf, candidate, candidatesFor, candidatesBelow, candidates, allKnown, theStep, Answer, newOn, newOff, stepFrom, stepOf}
-use Rattle.log.specs.Format.{listBytes, twoBytes, fourBytes, recordBytes, recordsBytes, okBytes, logBytes}
-use Rattle.log.specs.Meaning.{literalsOf, costsWritten, withNew, runFrom, runOf, runFor}
+use Rattle.step.specs.Meaning.{Question, setCost, yesGoals, noGoals, goals, goalLiteral, reasonsOn, reasonsOff, againstOn, againstOff, refutes}
+use Rattle.step.specs.Meaning.{isCandidate, candidateCost, before, earlier, firstOf, candidate, candidatesFor, candidatesBelow, candidates, allKnown}
+use Rattle.step.specs.Meaning.{theStep, Answer, newOn, newOff, stepFrom, stepOf}
+use Rattle.log_form.specs.Format.{listBytes, twoBytes, fourBytes, recordBytes, recordsBytes, okBytes, logBytes}
+use Rattle.log.specs.Meaning.{costsWritten, withNew, runFrom, runOf, runFor}
 use Rattle.engine.specs.Calls.{withModel, consequenceAnswer, between, stepSays, stepFor, stepAnswer, logOutcome, logAnswer, bufferAfter}
 use Rattle.engine.specs.declared.ConsequenceAnswer.{ConsequenceAnswer}
 use Rattle.engine.specs.declared.ConsequenceAnswer.the-variants as Consequence
@@ -32,11 +36,15 @@ set y n = record { yes = y; no = n }
 
 -- The definitions that the meaning of a step computes with, and those of a book and its models, named once each.
 unfoldable pub computed : Question → Answer
-unfolding stepOf stepFrom newOn newOff theStep allKnown trailingZeros candidates candidatesBelow candidatesFor candidate firstOf earlier before candidateCost isCandidate refutes againstOn againstOff reasonsOn reasonsOff goalLiteral goals noGoals yesGoals setCost sumBelow costOf yesForced noForced forcesYes forcesNo contradicts obeying
+unfolding stepOf stepFrom newOn newOff theStep allKnown trailingZeros candidates candidatesBelow candidatesFor candidate firstOf earlier before
+    candidateCost isCandidate refutes againstOn againstOff reasonsOn reasonsOff goalLiteral goals noGoals yesGoals setCost sumBelow costOf yesForced
+    noForced forcesYes forcesNo contradicts obeying
 computed q = stepOf q
 
 unfoldable pub readAndPosed : List ℕ → Read OrderBook
-unfolding problemOf theoryOf table padded yesConsequence noConsequence follows hasModel models collect isModel obeysRules someFilling everyFilling everyUnder holds obeys allHold allHoldMasks bit has insert subset disjoint diff readBook fromRules factsFrom many endAt atFact factAt factValues ruleAt ruleValues costAt costValues headerAt headerValues rising opened isCost pair marked variable ofByte yesMask yesBit noMask noBit
+unfolding problemOf theoryOf table padded yesConsequence noConsequence follows hasModel models collect isModel obeysRules someFilling everyFilling
+    everyUnder holds obeys allHold allHoldMasks bit has insert subset disjoint diff readBook fromRules factsFrom many endAt atFact factAt factValues
+    ruleAt ruleValues costAt costValues headerAt headerValues rising opened isCost pair marked variable ofByte yesMask yesBit noMask noBit
 readAndPosed s = readBook s
 
 -- ---- the orders
@@ -81,7 +89,9 @@ meant s =
     }
 
 pub orders-agree : map (λ (r : OrderRow). meant (r .bytes)) orders ≡ orders
-unfolding orders meant computed readAndPosed order-a order-b order-c order-d order-e order-f order-g order-h order-i order-j consequenceAnswer withModel logOutcome logAnswer bufferAfter runFor runOf runFrom withNew logBytes costsWritten okBytes recordsBytes recordBytes listBytes literalsOf twoBytes fourBytes byteOf members membersBelow membersFrom ones
+unfolding orders meant computed readAndPosed order-a order-b order-c order-d order-e order-f order-g order-h order-i order-j consequenceAnswer
+    withModel logOutcome logAnswer bufferAfter runFor runOf runFrom withNew logBytes costsWritten okBytes recordsBytes recordBytes listBytes
+    literalsOf twoBytes fourBytes byteOf members membersBelow membersFrom ones
 orders-agree = refl
 
 -- ---- single steps

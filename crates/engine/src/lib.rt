@@ -2,12 +2,13 @@
 ghost use mathlib.Core.Path.{_≡_};
 ghost use Prim.Native.Nat.{_≤_};
 ghost use lib.ListN.{length};
-ghost use Rattle.book.specs.Limits.{maxLog};
-ghost use Rattle.book.specs.Format.{readBook};
+ghost use Rattle.records.specs.Limits.{maxLog};
+ghost use Rattle.records.specs.Format.{readBook};
 ghost use Rattle.book.specs.Answer.{bookAnswer, tableAnswer};
 ghost use Rattle.log.specs.Meaning.{runOf, logOf};
 ghost use Rattle.engine.specs.Calls.{ModelCall, ConsequenceCall, StepCall, between, stepSays, LogCall, logged, LoggedAs};
-ghost use Rattle.engine.specs.Contracts.{Searchable, FoundModel, FoundForced, Steppable, stepIn, stepQuestion, StepReady, Loggable, LogReady, logIn, logQuestion};
+ghost use Rattle.engine.specs.Contracts.{Searchable, FoundModel, FoundForced, Steppable, stepIn, stepQuestion};
+ghost use Rattle.engine.specs.Contracts.{StepReady, Loggable, LogReady, logIn, logQuestion};
 use book::Book;
 use book::Reading;
 use consequence::Consequence;
@@ -50,7 +51,7 @@ pub enum LogAnswer {
 }
 
 // The book reader: the accepted book, or the refusal with its number and place.
-// Ruled out: a reader that accepts a book with a byte after EN; one that names the place of the next record.
+// Ruled out: a reader that accepts a book with a byte after EN; one that names the place of the first rule for a later one.
 pub fn read_book(s: &[u8]) -> Reading
     ensures { λ r. ⌜ r ≡ bookAnswer (readBook (now (s .entry))) ⌝ }
 {
@@ -65,8 +66,7 @@ pub fn read_costs(s: &[u8]) -> [[u16; 2]; Book::MAX_CHOICES]
     book::read_costs(s)
 }
 
-// One model of the book.
-// Ruled out: refusal 9 for every book; a filling that obeys the rules and denies a given fact.
+// One model of the book. Ruled out: refusal 9 for every book; a filling that obeys the rules and denies a given fact.
 pub fn model(s: &[u8]) -> ModelAnswer
     ensures { λ r. ⌜ ModelCall (now (s .entry)) r ⌝ }
 {

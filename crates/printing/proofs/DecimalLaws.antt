@@ -8,11 +8,11 @@ use Prim.Native.Nat.{ℕ, zero, suc, _+_, _/_, _%_, _^_, _≤_, _<_}
 use native.Mathlib.Nat.{pow-suc}
 use native.Mathlib.Omega.{arith}
 use native.Mathlib.Decide.{decLt}
-use borrow.Author.Tests.{lt-ltb, le-ltb}
 use lib.ListN.{length, set, length-append}
 use lib.Dec.{ltb}
-use Rattle.log.specs.Contracts.{Put}
-use Rattle.log.proofs.StoreLaws.{put-append, put-byte, put-none, put-length}
+use borrow.Author.Tests.{lt-ltb, le-ltb}
+use Rattle.log_form.proofs.StoreLaws.{put-append, put-byte, put-none, put-length}
+use Rattle.log_form.specs.Contracts.{Put}
 use Rattle.printing.specs.Text.{digits, decimal}
 
 -- a turn: the only digit, or the digits before the last one and the last one
@@ -81,4 +81,10 @@ decimal-short zero n h = rw (decimal-one n (omega (arith, h))) (omega arith)
 decimal-short (suc k) n h = by-cases (decLt n 10)
     (λ l. rw (decimal-one n l) (omega arith))
     (λ l. let m : 10 ≤ n = omega arith in
-    omega (arith, ap length (decimal-more n m), length-append (decimal (n / 10)) ((0x30 + n % 10) ∷ []), decimal-short k (n / 10) (omega (arith, pow-suc 10 (suc k)))))
+    omega (
+      arith,
+      ap length (decimal-more n m),
+      length-append (decimal (n / 10)) ((0x30 + n % 10) ∷ []),
+      decimal-short k (n / 10)
+          (omega (arith, pow-suc 10 (suc k))),
+    ))

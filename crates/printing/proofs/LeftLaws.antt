@@ -8,8 +8,8 @@ use native.Mathlib.Numerals.{add-one}
 use native.Mathlib.Omega.{arith}
 use lib.ListN.{length, set, drop, getD, length-append, drop-of-length-le}
 use lib.Seq.{drop-cons, sets-eq}
-use Rattle.log.specs.Contracts.{Put}
-use Rattle.log.proofs.StoreLaws.{put-append, put-byte, put-none, put-length}
+use Rattle.log_form.proofs.StoreLaws.{put-append, put-byte, put-none, put-length}
+use Rattle.log_form.specs.Contracts.{Put}
 use Rattle.printing.specs.Contracts.{Front}
 
 -- Parts, one after the other.
@@ -42,7 +42,8 @@ module _ {a : List ℕ} {at : ℕ} {text b : List ℕ} {k : ℕ} where
       omega (arith, left-length w, w .put .place, ap length (w .split), length-append (w .done) (part ++ joined parts), length-append part (joined parts))
 
   -- the next part is put
-  pub left-part : {part : List ℕ} {parts : List (List ℕ)} {c : List ℕ} {r : ℕ} → Left a at text b k (part ∷ parts) → Put b k part c r → Left a at text c r parts
+  pub left-part : {part : List ℕ} {parts : List (List ℕ)} {c : List ℕ} {r : ℕ} → Left a at text b k (part ∷ parts) → Put b k part c r
+      → Left a at text c r parts
   left-part {part} {parts} w p = record {
     done = w .done ++ part;
     put = put-append (w .done) part (w .put) p;
@@ -57,9 +58,13 @@ module _ {a : List ℕ} {at : ℕ} {text b : List ℕ} {k : ℕ} where
   pub left-last : {part c : List ℕ} {r : ℕ} → Left a at text b k (part ∷ []) → Put b k part c r → Put a at text c r
   left-last w p = rw (w .split, append-nil _) (put-append (w .done) _ (w .put) p)
 
--- two parts, of which none is put
-pub left-two : (a : List ℕ) (at : ℕ) (first second : List ℕ) → Left a at (first ++ second) a at (first ∷ second ∷ [])
-left-two a at first second = left-as _ (left-all a at (first ++ second)) (append-assoc first second [])
+-- two parts: room for the first, and after it for the second
+module _ (a : List ℕ) (at : ℕ) (first second : List ℕ) (room : at + length (first ++ second) ≤ length a) where
+  pub two-room : at + length first ≤ length a
+  two-room = omega (arith, length-append first second)
+
+  pub two-next : {b : List ℕ} {k : ℕ} → Put a at first b k → k + length second ≤ length b
+  two-next p = omega (arith, length-append first second, put-length first p, p .place)
 
 -- what is put from the first byte on stands in front
 pub put-front : {text a b : List ℕ} {r : ℕ} → Put a 0 text b r → length text ≤ length a → Front text a b r

@@ -5,8 +5,9 @@ use mathlib.Core.List.{List, [], _∷_, _++_, append-assoc}
 use Prim.Native.Nat.{ℕ, _+_, _^_, _≤_, _<_}
 use native.Mathlib.Omega.{arith}
 use lib.ListN.{length, length-append}
-use Rattle.log.specs.Format.{StepRecord}
-use Rattle.printing.specs.Text.{decimal, literalText, literalsText, stepWord, goalWord, fromWord, newWord, costWord, lineEnd, stepText, doneWord, totalWord, doneText, refusedWord, atWord, refusalText}
+use Rattle.log_form.specs.Format.{StepRecord}
+use Rattle.printing.specs.Text.{decimal, literalText, literalsText, stepWord, goalWord, fromWord, newWord, costWord, lineEnd, stepText, doneWord}
+use Rattle.printing.specs.Text.{totalWord, doneText, refusedWord, atWord, refusalText}
 use Rattle.printing.proofs.DecimalLaws.{decimal-short}
 use Rattle.printing.proofs.LeftLaws.{Left, left-all, left-as}
 
@@ -21,7 +22,8 @@ pair-left a at first n second m = left-as _ (left-all a at _) (simp append-assoc
 -- the line of a step
 abbrev pub lineParts : ℕ → StepRecord → List (List ℕ)
 lineParts number r =
-    (stepWord ++ decimal number) ∷ goalWord ∷ literalText (r .goal) ∷ (fromWord ++ literalsText (r .reasons)) ∷ (newWord ++ literalsText (r .new)) ∷ (costWord ++ decimal (r .cost)) ∷ lineEnd ∷ []
+    (stepWord ++ decimal number) ∷ goalWord ∷ literalText (r .goal) ∷ (fromWord ++ literalsText (r .reasons)) ∷ (newWord ++ literalsText (r .new)) ∷
+    (costWord ++ decimal (r .cost)) ∷ lineEnd ∷ []
 
 pub line-left : (a : List ℕ) (at number : ℕ) (r : StepRecord) → Left a at (stepText number r) a at (lineParts number r)
 unfolding stepText
@@ -43,6 +45,7 @@ done-length steps total h k =
     omega (arith, pair-length doneWord steps totalWord total, decimal-short 2 steps (omega arith), decimal-short 9 total (omega arith))
 
 pub step-length : (number : ℕ) (r : StepRecord)
-    → length (stepText number r) ≡ 27 + length (decimal number) + length (literalText (r .goal)) + length (literalsText (r .reasons)) + length (literalsText (r .new)) + length (decimal (r .cost))
+    → length (stepText number r) ≡ 27 + length (decimal number) + length (literalText (r .goal)) + length (literalsText (r .reasons)) + length
+    (literalsText (r .new)) + length (decimal (r .cost))
 unfolding stepText
 step-length number r = simp length-append (omega arith)

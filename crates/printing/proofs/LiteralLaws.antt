@@ -7,12 +7,12 @@ use Prim.Native.Nat.{ℕ, suc, _+_, _-_, _*_, _≤_, _<_}
 use native.Mathlib.Numerals.{add-one}
 use native.Mathlib.Omega.{arith}
 use native.Mathlib.Decide.{decLt}
-use borrow.Author.Tests.{lt-ltb, le-ltb}
 use lib.ListN.{length, set, drop, getD, drop-of-length-le, length-append}
 use lib.Seq.{drop-cons}
+use borrow.Author.Tests.{lt-ltb, le-ltb}
 use Rattle.literals.specs.Literal.{ofByte}
-use Rattle.log.specs.Contracts.{Put}
-use Rattle.log.proofs.StoreLaws.{put-byte}
+use Rattle.log_form.proofs.StoreLaws.{put-byte}
+use Rattle.log_form.specs.Contracts.{Put}
 use Rattle.printing.specs.Text.{decimal, literalText, literalsText}
 use Rattle.printing.proofs.DecimalLaws.{decimal-short}
 use Rattle.printing.proofs.LeftLaws.{Left, left-all, left-as, left-part, left-none, part-room}
@@ -33,7 +33,8 @@ no-text b h k = let same : suc (255 - b) ≡ 256 - b = omega arith in no-literal
 abbrev pub bytesText : List ℕ → List ℕ
 bytesText bytes = literalsText (map ofByte bytes)
 
-pub first-literal : (bytes : List ℕ) (i : ℕ) → i < length bytes → bytesText (drop i bytes) ≡ (0x20 ∷ []) ++ (literalText (ofByte (getD bytes i 0)) ++ bytesText (drop (i + 1) bytes))
+pub first-literal : (bytes : List ℕ) (i : ℕ) → i < length bytes
+    → bytesText (drop i bytes) ≡ (0x20 ∷ []) ++ (literalText (ofByte (getD bytes i 0)) ++ bytesText (drop (i + 1) bytes))
 unfolding literalsText
 first-literal bytes i h = rw (add-one i, drop-cons bytes i 0 h) refl
 
@@ -50,7 +51,8 @@ module _ (a : List ℕ) (at : ℕ) (bytes : List ℕ) where
 
   module _ {b : List ℕ} {k i : ℕ} (w : LiteralsPut b k i) (h : i < length bytes) where
     next : Left a at (bytesText bytes) b k ((0x20 ∷ []) ∷ literalText (ofByte (getD bytes i 0)) ∷ bytesText (drop (i + 1) bytes) ∷ [])
-    next = left-as _ (w .left) (rw (first-literal bytes i h) (ap (λ l. 0x20 ∷ l) (append-assoc (literalText (ofByte (getD bytes i 0))) (bytesText (drop (i + 1) bytes)) [])))
+    next = left-as _ (w .left) (rw (first-literal bytes i h)
+        (ap (λ l. 0x20 ∷ l) (append-assoc (literalText (ofByte (getD bytes i 0))) (bytesText (drop (i + 1) bytes)) [])))
 
     pub blank-room : at + length (bytesText bytes) ≤ length a → k < length b
     blank-room r = omega (arith, part-room next r)

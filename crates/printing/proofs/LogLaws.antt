@@ -8,8 +8,8 @@ use Prim.Native.Nat.{ℕ, zero, suc, _+_, _-_, _*_, _≤_, _<_}
 use native.Mathlib.Omega.{arith}
 use lib.ListN.{length, getD, take, drop, length-append, length-drop, length-take}
 use lib.Seq.{getD-drop}
-use Rattle.log.specs.Format.{Log, ST, begins, isLog, readRecords}
-use Rattle.log.specs.Laws.Reads.{Bytes}
+use Rattle.log_form.specs.Format.{Log, ST, begins, isLog, readRecords}
+use Rattle.log_form.specs.Laws.Parsing.{Bytes}
 use Rattle.printing.specs.Text.{stepText, stepsText, doneText}
 use Rattle.printing.specs.Fields.{factsEnd, newEnd, recordSize, recordIn, totalIn}
 use Rattle.printing.proofs.DecimalLaws.{decimal-short}
@@ -24,7 +24,8 @@ restText number l = stepsText number (l .records) ++ doneText (l .steps) (l .tot
 pub step-text : {choices turns : ℕ} {s : List ℕ} {l : Log} (number : ℕ) (w : StepRead choices turns s l)
     → restText number l ≡ stepText number (recordIn s) ++ restText (suc number) (w .rest)
 unfolding restText stepsText
-step-text {s = s} number w = rw (w .is) (append-assoc (stepText number (recordIn s)) (stepsText (suc number) (w .rest .records)) (doneText (w .rest .steps) (w .rest .total)))
+step-text {s = s} number w = rw (w .is) (append-assoc (stepText number (recordIn s)) (stepsText (suc number) (w .rest .records))
+    (doneText (w .rest .steps) (w .rest .total)))
 
 pub end-text : {s : List ℕ} {l : Log} (number : ℕ) → EndRead s l → restText number l ≡ doneText (getD s 2 0) (totalIn s)
 unfolding restText stepsText
@@ -45,7 +46,8 @@ no-turns choices place s e = let z : _≡_ {A = ℕ} 0 1 = cc in absurd (omega a
 ends-same : {s : List ℕ} {l l′ : Log} → EndRead s l → EndRead s l′ → l ≡ l′
 ends-same w w′ = w .is ∙ sym (w′ .is)
 
-steps-same : {choices choices′ turns turns′ : ℕ} {s : List ℕ} {l l′ : Log} (w : StepRead choices turns s l) (w′ : StepRead choices′ turns′ s l′) → w .rest ≡ w′ .rest → l ≡ l′
+steps-same : {choices choices′ turns turns′ : ℕ} {s : List ℕ} {l l′ : Log} (w : StepRead choices turns s l) (w′ : StepRead choices′ turns′ s l′)
+    → w .rest ≡ w′ .rest → l ≡ l′
 steps-same w w′ e = w .is ∙ rw e (sym (w′ .is))
 
 pub same-log : (choices choices′ turns turns′ place place′ : ℕ) (s : List ℕ) {l l′ : Log}

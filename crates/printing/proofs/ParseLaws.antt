@@ -6,12 +6,12 @@ use mathlib.Core.List.{List, map}
 use Prim.Native.Nat.{ℕ, _+_, _*_, _≤_, _<_}
 use native.Mathlib.Nat.{add-zero}
 use native.Mathlib.Omega.{arith}
-use borrow.Author.Tests.{leb-true}
 use lib.Dec.{leb}
 use lib.ListN.{length, getD, take, drop, length-drop}
 use lib.Seq.{getD-take, getD-drop, drop-drop}
+use borrow.Author.Tests.{leb-true}
 use Rattle.literals.specs.Literal.{Literal, ofByte}
-use Rattle.log.specs.Format.{StepRecord, Parsed, parsed, malformed, andParse, parseBytes, parseList, parseRecord, risingOver}
+use Rattle.log_form.specs.Format.{StepRecord, Parsed, parsed, malformed, andParse, parseBytes, parseList, parseRecord, risingOver}
 use Rattle.printing.specs.Fields.{factsEnd, newEnd, recordSize, recordIn}
 
 module _ {A B : Type 0} where
@@ -68,7 +68,8 @@ unfolding parseList
 list-parsed choices s k e =
     and-then (parseBytes 1 (drop k s)) _ e (λ n after p e₁.
     and-then (parseBytes (getD n 0 0) after) _ e₁ (λ bytes rest q e₂.
-    rising-parsed s k (risingOver choices 0 (map ofByte bytes)) (list-from s k n after (bytes-parsed 1 (drop k s) p) bytes rest (bytes-parsed (getD n 0 0) after q)) e₂))
+    rising-parsed s k (risingOver choices 0 (map ofByte bytes))
+    (list-from s k n after (bytes-parsed 1 (drop k s) p) bytes rest (bytes-parsed (getD n 0 0) after q)) e₂))
 
 -- an ST record at the front of s
 pub record RecordParsed (s : List ℕ) (r : StepRecord) (rest : List ℕ) : Type 0 where
@@ -97,7 +98,8 @@ module _ (s : List ℕ) {head after₀ : List ℕ} (start : BytesParsed 3 s head
     rest-is = end .rest-is ∙ ap (drop 2) (second .rest-is) ∙ drop-drop 2 (newEnd s) s;
   }
 
-record-same : (s : List ℕ) {r r′ : StepRecord} {rest rest′ : List ℕ} → RecordParsed s r rest → _≡_ {A = Parsed StepRecord} (parsed r rest) (parsed r′ rest′) → RecordParsed s r′ rest′
+record-same : (s : List ℕ) {r r′ : StepRecord} {rest rest′ : List ℕ} → RecordParsed s r rest → _≡_ {A = Parsed StepRecord} (parsed r rest) (parsed r′ rest′)
+    → RecordParsed s r′ rest′
 record-same s {r} {r′} {rest} {rest′} w e =
     let same : r′ ≡ r = cc in
     let place : rest′ ≡ rest = cc in

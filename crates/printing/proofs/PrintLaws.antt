@@ -3,15 +3,15 @@
 use mathlib.Core.Path.{_≡_, refl, sym, ap, _∙_}
 use mathlib.Core.Bool.{Bool, true, false, cond}
 use mathlib.Core.List.{List, _++_}
-use Prim.Native.Nat.{ℕ, _+_, _-_, _≤_, _<_}
+use Prim.Native.Nat.{ℕ, _≤_, _<_}
 use native.Mathlib.Omega.{arith}
-use borrow.Author.Tests.{lt-ltb, le-ltb}
 use lib.Dec.{ltb}
 use lib.ListN.{length, take, drop, replicate, length-append, length-drop, length-replicate}
 use lib.Seq.{take-at}
-use Rattle.book.specs.Limits.{maxLog}
-use Rattle.book.specs.Format.{readBook}
-use Rattle.log.specs.Format.{Log, logBytes}
+use borrow.Author.Tests.{lt-ltb, le-ltb}
+use Rattle.records.specs.Limits.{maxLog}
+use Rattle.records.specs.Format.{readBook}
+use Rattle.log_form.specs.Format.{Log, logBytes}
 use Rattle.engine.specs.Calls.{LogOutcome, logged, refusedWith, logOutcome, logAnswer, bufferAfter, LoggedAs, LogCall}
 use Rattle.engine.specs.declared.LogAnswer.{LogAnswer}
 use Rattle.engine.specs.declared.LogAnswer.the-variants as LogAnswer
@@ -27,7 +27,8 @@ unfolding printAnswer printedBuffer
 print-short {s} {before} h = record { answered = rw (lt-ltb (length before) maxText h) refl; buffer = rw (lt-ltb (length before) maxText h) refl }
 
 -- a text at the front of a buffer that has room
-front-call : {s before after text : List ℕ} {r : ℕ} → maxText ≤ length before → textOf s ≡ text → Front text before after r → PrintCall s before after (Printed.Text r)
+front-call : {s before after text : List ℕ} {r : ℕ} → maxText ≤ length before → textOf s ≡ text → Front text before after r
+    → PrintCall s before after (Printed.Text r)
 unfolding printAnswer printedBuffer
 front-call {s} {before} h e f =
     record {
@@ -43,13 +44,15 @@ record CameTo (s log : List ℕ) (a : LogAnswer) (o : LogOutcome) : Type 0 where
 came-to : {s log : List ℕ} {a : LogAnswer} → LogCall s (replicate maxLog 0) log a → CameTo s log a (logOutcome maxLog (readBook s))
 came-to c = record { outcome = refl; logged-as = rw (length-replicate {A = ℕ} maxLog 0) at (c .said) }
 
-pub print-refused : {s log before after : List ℕ} {a : LogAnswer} {number place r : ℕ} → LogCall s (replicate maxLog 0) log a → a ≡ LogAnswer.Refused number place
+pub print-refused : {s log before after : List ℕ} {a : LogAnswer} {number place r : ℕ} → LogCall s (replicate maxLog 0) log a
+    → a ≡ LogAnswer.Refused number place
     → maxText ≤ length before → Front (refusalText number place) before after r → PrintCall s before after (Printed.Text r)
 unfolding textOf outcomeText logAnswer
 print-refused {s} {log} {before} {after} {a} {number} {place} c e h f = front-call h (go (logOutcome maxLog (readBook s)) (came-to c)) f
   where
     go : (o : LogOutcome) → CameTo s log a o → outcomeText o ≡ refusalText number place
-    go (logged l) k = let same : LogAnswer.Refused number place ≡ logAnswer (logged l) = sym e ∙ k .logged-as .answered in let z : _≡_ {A = ℕ} 0 1 = cc in absurd (omega arith)
+    go (logged l) k = let same : LogAnswer.Refused number place ≡ logAnswer (logged l) = sym e ∙ k .logged-as .answered in let z : _≡_ {A = ℕ} 0 1 = cc in
+        absurd (omega arith)
     go (refusedWith n p) k = let same : LogAnswer.Refused number place ≡ LogAnswer.Refused n p = sym e ∙ k .logged-as .answered in cc
 
 -- A log of this size was written.
@@ -60,13 +63,15 @@ record WroteLog (s log : List ℕ) (size : ℕ) : Type 0 where
   size-is : size ≡ length (logBytes says)
   short : size ≤ maxLog
 
-wrote-log : {s log : List ℕ} {a : LogAnswer} {size steps total : ℕ} → LogCall s (replicate maxLog 0) log a → a ≡ LogAnswer.Written size steps total → length log ≡ maxLog
+wrote-log : {s log : List ℕ} {a : LogAnswer} {size steps total : ℕ} → LogCall s (replicate maxLog 0) log a → a ≡ LogAnswer.Written size steps total
+    → length log ≡ maxLog
     → WroteLog s log size
 unfolding logAnswer bufferAfter
 wrote-log {s} {log} {a} {size} {steps} {total} c e long = go (logOutcome maxLog (readBook s)) refl (came-to c)
   where
     go : (o : LogOutcome) → logOutcome maxLog (readBook s) ≡ o → CameTo s log a o → WroteLog s log size
-    go (refusedWith n p) d k = let same : LogAnswer.Written size steps total ≡ LogAnswer.Refused n p = sym e ∙ k .logged-as .answered in let z : _≡_ {A = ℕ} 0 1 = cc in absurd (omega arith)
+    go (refusedWith n p) d k = let same : LogAnswer.Written size steps total ≡ LogAnswer.Refused n p = sym e ∙ k .logged-as .answered in
+        let z : _≡_ {A = ℕ} 0 1 = cc in absurd (omega arith)
     go (logged l) d k =
         let same : LogAnswer.Written size steps total ≡ LogAnswer.Written (length (logBytes l)) (l .steps) (l .total) = sym e ∙ k .logged-as .answered in
         let sized : size ≡ length (logBytes l) = cc in
@@ -84,7 +89,8 @@ wrote-log {s} {log} {a} {size} {steps} {total} c e long = go (logOutcome maxLog 
           );
         }
 
-module _ {s log : List ℕ} {a : LogAnswer} {size steps total : ℕ} (c : LogCall s (replicate maxLog 0) log a) (e : a ≡ LogAnswer.Written size steps total) (long : length log ≡ maxLog) where
+module _ {s log : List ℕ} {a : LogAnswer} {size steps total : ℕ} (c : LogCall s (replicate maxLog 0) log a) (e : a ≡ LogAnswer.Written size steps total)
+    (long : length log ≡ maxLog) where
   pub log-short : size ≤ maxLog
   log-short = wrote-log c e long .short
 
@@ -95,7 +101,8 @@ module _ {s log : List ℕ} {a : LogAnswer} {size steps total : ℕ} (c : LogCal
       let size-of : length (take size log) ≡ size = ap length (w .first-bytes) ∙ sym (w .size-is) in
       record { choices = reads .0; says = w .says; reads = rw (w .first-bytes) (reads .1); short = omega (arith, w .short); room = omega (arith, w .short) }
 
-  pub print-log : {before after : List ℕ} {r : ℕ} → maxText ≤ length before → LogPut (take size log) before after r → PrintCall s before after (Printed.Text r)
+  pub print-log : {before after : List ℕ} {r : ℕ} → maxText ≤ length before → LogPut (take size log) before after r
+      → PrintCall s before after (Printed.Text r)
   unfolding textOf outcomeText
   print-log h p =
       let w = wrote-log c e long in
@@ -103,11 +110,13 @@ module _ {s log : List ℕ} {a : LogAnswer} {size steps total : ℕ} (c : LogCal
       front-call h (rw (w .outcome) refl) (p .text-of (reads .0) (w .says) (rw (w .first-bytes) (reads .1)))
 
 -- what a caller wants to know: the text that was put is within the buffer
-pub text-fits : {s before after : List ℕ} {r : Printed} {size : ℕ} → PrintCall s before after r → r ≡ Printed.Text size → length after ≡ length before → size ≤ length before
+pub text-fits : {s before after : List ℕ} {r : Printed} {size : ℕ} → PrintCall s before after r → r ≡ Printed.Text size → length after ≡ length before
+    → size ≤ length before
 unfolding printAnswer printedBuffer
 text-fits {s} {before} {after} {r} {size} c e same = go (ltb (length before) maxText) (sym e ∙ c .answered) (c .buffer)
   where
-    go : (b : Bool) → Printed.Text size ≡ cond b Printed.Short (Printed.Text (length (textOf s))) → after ≡ cond b before (textOf s ++ drop (length (textOf s)) before) → size ≤ length before
+    go : (b : Bool) → Printed.Text size ≡ cond b Printed.Short (Printed.Text (length (textOf s)))
+        → after ≡ cond b before (textOf s ++ drop (length (textOf s)) before) → size ≤ length before
     go true d k = let z : _≡_ {A = ℕ} 0 1 = cc in absurd (omega arith)
     go false d k =
         let long : size ≡ length (textOf s) = cc in

@@ -5,10 +5,11 @@ use mathlib.Core.Bool.{Bool, true, false, cond, _&&_}
 use mathlib.Core.List.{List, [], _∷_}
 use Prim.Native.Nat.{ℕ, suc, _+_, _-_, _≤_}
 use native.Mathlib.Omega.{arith}
-use borrow.Author.Tests.{eqb-true}
 use lib.Dec.{eqb, leb}
 use lib.ListN.{length, getD, drop}
-use Rattle.log.specs.Format.{StepRecord, Log, ST, OK, begins, Parsed, parsed, malformed, parseRecord, LogRead, isLog, notLog, withRecord, readEnd, readRecords}
+use borrow.Author.Tests.{eqb-true}
+use Rattle.log_form.specs.Format.{StepRecord, Log, ST, OK, begins, Parsed, parsed, malformed, parseRecord, LogRead, isLog, notLog, withRecord, readEnd}
+use Rattle.log_form.specs.Format.{readRecords}
 use Rattle.printing.specs.Fields.{recordSize, recordIn, totalIn}
 use Rattle.printing.proofs.ParseLaws.{RecordParsed, record-parsed}
 

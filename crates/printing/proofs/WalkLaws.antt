@@ -8,13 +8,13 @@ use native.Mathlib.Numerals.{add-one}
 use native.Mathlib.Omega.{arith}
 use lib.ListN.{length, getD, take, drop, length-drop}
 use lib.Seq.{take-all, drop-drop}
-use Rattle.log.specs.Format.{Log, ST, begins, isLog, readRecords, readLog}
-use Rattle.log.specs.Contracts.{Put}
-use Rattle.log.specs.Laws.Reads.{Bytes}
+use Rattle.log_form.specs.Format.{Log, ST, begins, isLog, readRecords, readLog}
+use Rattle.log_form.specs.Laws.Parsing.{Bytes}
+use Rattle.log_form.specs.Contracts.{Put}
 use Rattle.printing.specs.Text.{stepText, doneText, logText}
 use Rattle.printing.specs.Fields.{recordSize, recordIn, totalIn}
 use Rattle.printing.specs.Contracts.{LinePut, Printable, LogPut}
-use Rattle.printing.specs.declared.records.Line.{Line}
+use Rattle.printing.specs.declared.lines.Line.{Line}
 use Rattle.printing.proofs.LeftLaws.{Left, left-all, left-as, left-part, left-last, part-room, put-front}
 use Rattle.printing.proofs.ReadLaws.{StepRead, step-read, EndRead, end-read}
 use Rattle.printing.proofs.LogLaws.{restText, step-text, end-text, no-turns, same-log, text-length}
@@ -31,7 +31,8 @@ tail-tail : (log : List ℕ) (from size : ℕ) → drop size (tail log from) ≡
 tail-tail log from size = ap (drop size) (tail-is log from) ∙ drop-drop size from log ∙ sym (tail-is log (from + size))
 
 -- with any number of turns
-next-step : (choices turns place : ℕ) (s : List ℕ) {l : Log} → readRecords choices turns place s ≡ isLog l → begins ST s ≡ true → (fewer : ℕ) × StepRead choices fewer s l
+next-step : (choices turns place : ℕ) (s : List ℕ) {l : Log} → readRecords choices turns place s ≡ isLog l → begins ST s ≡ true
+    → (fewer : ℕ) × StepRead choices fewer s l
 next-step choices zero place s e b = no-turns choices place s e
 next-step choices (suc turns) place s e b = (turns, step-read choices turns place s e b)
 
@@ -89,7 +90,8 @@ module _ (out₀ log : List ℕ) where
       step-fits = step .1 .fits
 
       next : Left out₀ 0 (logText (w .says)) out at (stepText number (recordIn (tail log from)) ∷ restText (suc number) (step .1 .rest) ∷ [])
-      next = left-as _ (w .left) (ap (λ t. t ++ []) (step-text number (step .1)) ∙ append-assoc (stepText number (recordIn (tail log from))) (restText (suc number) (step .1 .rest)) [])
+      next = left-as _ (w .left) (ap (λ t. t ++ []) (step-text number (step .1))
+          ∙ append-assoc (stepText number (recordIn (tail log from))) (restText (suc number) (step .1 .rest)) [])
 
       pub step-room : at + length (stepText number (recordIn (tail log from))) ≤ length out
       step-room = part-room next (omega (arith, w .room))

@@ -3,11 +3,11 @@ use mathlib.Core.Path.{_≡_}
 use mathlib.Core.List.{List, _++_}
 use Prim.Native.Nat.{ℕ, _*_, _≤_}
 use lib.ListN.{length, drop}
-use Rattle.log.specs.Format.{Log, readLog, isLog}
-use Rattle.log.specs.Contracts.{Put}
+use Rattle.log_form.specs.Format.{Log, readLog, isLog}
+use Rattle.log_form.specs.Contracts.{Put}
 use Rattle.printing.specs.Text.{stepText, logText}
 use Rattle.printing.specs.Fields.{recordSize, recordIn}
-use Rattle.printing.specs.declared.records.Line.{Line}
+use Rattle.printing.specs.declared.lines.Line.{Line}
 
 -- The line of the ST record at the front of s is put; the answer is the place after the line, and the record's length.
 pub record LinePut (before : List ℕ) (at number : ℕ) (s after : List ℕ) (r : Line) : Type 0 where

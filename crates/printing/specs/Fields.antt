@@ -3,7 +3,7 @@ use mathlib.Core.List.{List, map}
 use Prim.Native.Nat.{ℕ, _+_, _*_}
 use lib.ListN.{getD, take, drop}
 use Rattle.literals.specs.Literal.{ofByte}
-use Rattle.log.specs.Format.{StepRecord}
+use Rattle.log_form.specs.Format.{StepRecord}
 
 -- The places after the facts and after the new literals of the ST record at the front of s, and the record's length.
 abbrev pub factsEnd : List ℕ → ℕ

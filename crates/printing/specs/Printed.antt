@@ -5,8 +5,8 @@ use mathlib.Core.List.{List, _++_}
 use Prim.Native.Nat.{ℕ, _*_}
 use lib.Dec.{ltb}
 use lib.ListN.{length, drop}
-use Rattle.book.specs.Limits.{maxLog}
-use Rattle.book.specs.Format.{readBook}
+use Rattle.records.specs.Limits.{maxLog}
+use Rattle.records.specs.Format.{readBook}
 use Rattle.engine.specs.Calls.{LogOutcome, logged, refusedWith, logOutcome}
 use Rattle.printing.specs.Text.{logText, refusalText}
 use Rattle.printing.specs.declared.Printed.{Printed}

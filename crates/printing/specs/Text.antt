@@ -5,7 +5,7 @@ use Prim.Native.Nat.{ℕ, zero, suc, _+_, _/_, _%_}
 use lib.Dec.{ltb}
 use lib.IntN.{pos, negsuc}
 use Rattle.literals.specs.Literal.{Literal}
-use Rattle.log.specs.Format.{StepRecord, Log}
+use Rattle.log_form.specs.Format.{StepRecord, Log}
 
 -- ---- numbers and literals
 

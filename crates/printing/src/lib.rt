@@ -5,7 +5,7 @@ ghost use Rattle.printing.specs.Text.{refusalText};
 ghost use Rattle.printing.specs.Printed.{PrintCall};
 ghost use Rattle.printing.specs.Contracts.{Front};
 
-mod records;
+mod lines;
 mod text;
 
 use book::Book;
@@ -35,7 +35,7 @@ pub fn print(s: &[u8], out: &mut [u8]) -> Printed
             size,
             steps: _,
             total: _,
-        } => Printed::Text(records::put_log(out, &log[..size])),
+        } => Printed::Text(lines::put_log(out, &log[..size])),
     }
 }
 

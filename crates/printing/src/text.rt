@@ -3,7 +3,7 @@ ghost use mathlib.Core.List.{_++_, map};
 ghost use Prim.Native.Nat.{_+_, _≤_};
 ghost use lib.ListN.{length};
 ghost use Rattle.literals.specs.Literal.{ofByte};
-ghost use Rattle.log.specs.Contracts.{Put};
+ghost use Rattle.log_form.specs.Contracts.{Put};
 ghost use Rattle.printing.specs.Text.{decimal, literalText, literalsText, lineEnd};
 
 // The bytes of a word, as they stand.

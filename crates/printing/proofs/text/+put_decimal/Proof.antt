@@ -6,8 +6,8 @@ use native.Mathlib.Omega.{arith}
 use borrow.Fn.Kinds.{In}
 use borrow.Fn.PlainCycle.{Measures, is, falls, and}
 use denote.Ref.{now}
-use Rattle.log.specs.Contracts.{Put}
-use Rattle.log.proofs.StoreLaws.{put-length}
+use Rattle.log_form.proofs.StoreLaws.{put-length}
+use Rattle.log_form.specs.Contracts.{Put}
 use Rattle.printing.proofs.DecimalLaws.{leading, put-front-one, put-front-more, put-last, last-room, front-room}
 use Rattle.printing.proofs.text.put_decimal.Reads as put-decimal
 use Rattle.printing.proofs.text.put_decimal.Kinds as put-decimal-kinds
@@ -51,7 +51,12 @@ module _ (t : ℕ) where
   slice-write-out c = last-room (c .before .before .args .n) (c .before .before .pre .1) (before-last c)
 
   add-result : put-decimal-lts.Need-add-result (claims t) (put-decimal-at t) put-decimal.Post
-  add-result c = omega (arith, last-room (c .before .before .before .args .n) (c .before .before .before .pre .1) (before-last (c .before)), put-length _ (before-last (c .before)))
+  add-result c = omega (
+    arith,
+    last-room (c .before .before .before .args .n) (c .before .before .before .pre .1) (before-last (c .before)),
+    put-length _
+        (before-last (c .before)),
+  )
 
   same-length : put-decimal-lts.Need-same-length (claims t) (put-decimal-at t) put-decimal.Post
   same-length c = put-length _ (put-last (c .before .before .before .args .n) (before-last (c .before)))

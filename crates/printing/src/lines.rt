@@ -2,7 +2,7 @@
 ghost use mathlib.Core.Path.{_≡_};
 ghost use Prim.Native.Nat.{_+_, _*_, _≤_};
 ghost use lib.ListN.{length, getD};
-ghost use Rattle.log.specs.Contracts.{Put};
+ghost use Rattle.log_form.specs.Contracts.{Put};
 ghost use Rattle.printing.specs.Text.{stepText, doneText};
 ghost use Rattle.printing.specs.Fields.{recordSize, recordIn, ofFields, totalIn};
 ghost use Rattle.printing.specs.Contracts.{LinePut, Printable, LogPut};
@@ -81,7 +81,7 @@ pub fn put_log(out: &mut [u8], log: &[u8]) -> usize
     let mut at = 0;
     let mut from = 0;
     let mut number: u64 = 1;
-    while log::at_step(&log[from..]) {
+    while log_form::at_step(&log[from..]) {
         let line = put_step(out, at, number, &log[from..]);
         at = line.next;
         from += line.size;
