@@ -11,3 +11,11 @@ pub fn show(s: &[u8]) {
         Printed::Short => {}
     }
 }
+
+// Reads the first 4,096 bytes at most of an open file and writes the text for them. A short read is followed by another,
+// up to the end of the file.
+pub fn show_file(fd: i32) {
+    let mut space = io::buffer();
+    let size = io::read_full(fd, &mut space);
+    show(&space[..size]);
+}

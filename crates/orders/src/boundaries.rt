@@ -3,6 +3,7 @@ use crate::compare;
 use crate::compare::Tally;
 use samples::build;
 use samples::build::Draft;
+use samples::counter;
 use samples::edits;
 
 // A book of these counts, its rules all (1): a wrong count is refused at the beginning.
@@ -45,6 +46,7 @@ fn cost(t: Tally, choice: u8, of_yes: u16, of_no: u16, number: u8) -> Tally {
 }
 
 pub fn costs(t: Tally) -> Tally {
+    let d = build::cost(build::header(build::empty(), 2, 2, 0), 1, 5, 9);
     let t = cost(t, 1, 1, 1, 0);
     let t = cost(t, 1, 999, 999, 0);
     let t = cost(t, 1, 256, 255, 0);
@@ -55,7 +57,6 @@ pub fn costs(t: Tally) -> Tally {
     let t = cost(t, 1, 65535, 9, 4);
     let t = cost(t, 0, 5, 9, 4);
     let t = cost(t, 2, 5, 9, 4);
-    let d = build::cost(build::header(build::empty(), 2, 2, 0), 1, 5, 9);
     let t = compare::expect(t, build::end(build::cost(d, 1, 5, 9)), 4, 12);
     let t = compare::expect(t, build::end(build::cost(d, 2, 5, 9)), 0, 0);
     let t = compare::expect(t, edits::cut(build::cost(d, 3, 5, 9), 18), 1, 12);
@@ -93,6 +94,8 @@ pub fn rule_counts(t: Tally) -> Tally {
 }
 
 pub fn rule_literals(t: Tally) -> Tally {
+    let d = build::costs(build::header(build::empty(), 1, 1, 1), 1);
+    let t = compare::expect(t, build::end(build::rule_of(d, 128)), 6, 12);
     let t = two(t, 2, 1, 2, 0);
     let t = two(t, 2, 255, 254, 0);
     let t = two(t, 32, 31, 32, 0);
@@ -109,8 +112,6 @@ pub fn rule_literals(t: Tally) -> Tally {
     let t = two(t, 32, 1, 223, 6);
     let t = two(t, 32, 1, 128, 6);
     let t = two(t, 32, 1, 127, 6);
-    let d = build::costs(build::header(build::empty(), 1, 1, 1), 1);
-    let t = compare::expect(t, build::end(build::rule_of(d, 128)), 6, 12);
     let d = build::rule_of(build::header(build::empty(), 1, 0, 2), 1);
     let t = compare::expect(t, build::end(build::rule_of(d, 1)), 0, 0);
     compare::expect(t, build::end(build::rule_of(d, 2)), 6, 9)
@@ -180,7 +181,7 @@ pub fn ends(t: Tally) -> Tally {
     let t = compare::expect(t, build::put(none, b'X'), 1, 5);
     let t = compare::expect(t, build::put(build::end(none), 0), 7, 7);
     let t = compare::expect(t, build::end(build::end(none)), 7, 7);
-    let p = build::book_p();
+    let p = counter::order(b'c');
     let t = compare::expect(t, p, 0, 0);
     let t = compare::expect(t, edits::cut(p, 56), 1, 55);
     let t = compare::expect(t, build::put(p, b'E'), 7, 57);

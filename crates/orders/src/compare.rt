@@ -1,6 +1,4 @@
 // The reader's answer held against the reckoning, or against a number and a place.
-use book::Book;
-use book::Verdict;
 use samples::build;
 use samples::build::Draft;
 use samples::reckon;
@@ -32,99 +30,16 @@ pub fn next_group(mut t: Tally) -> Tally {
     t
 }
 
-// Whether the reader's answer has this number and this place; number 0 stands for a book that is accepted.
-fn says(verdict: Verdict, number: u8, place: usize) -> bool {
-    match verdict {
-        Verdict::Accepted => number == 0,
-        Verdict::Refused {
-            number: found,
-            place: at,
-        } => {
-            if found == 0 {
-                return false;
-            }
-            if found == number { at == place } else { false }
-        }
-    }
-}
-
-fn same_masks(a: [u64; 128], b: [u64; 128]) -> bool {
-    let mut same = true;
-    for i in 0..128 {
-        if a[i] != b[i] {
-            same = false;
-        }
-    }
-    same
-}
-
-fn same_costs(table: [[u16; 2]; 20], row: [u16; 40]) -> bool {
-    let mut same = true;
-    for i in 0..20 {
-        if table[i][0] != row[2 * i] {
-            same = false;
-        }
-        if table[i][1] != row[2 * i + 1] {
-            same = false;
-        }
-    }
-    same
-}
-
-fn same_counts(book: Book, due: Reckoned) -> bool {
-    if book.variables != due.variables {
-        return false;
-    }
-    if book.choices != due.choices {
-        return false;
-    }
-    book.rules == due.rules
-}
-
-fn same_facts(book: Book, due: Reckoned) -> bool {
-    if book.facts_yes != due.facts_yes {
-        return false;
-    }
-    book.facts_no == due.facts_no
-}
-
-fn same_book(book: Book, due: Reckoned) -> bool {
-    if !same_counts(book, due) {
-        return false;
-    }
-    let yes = book.yes;
-    let due_yes = due.yes;
-    if !same_masks(yes, due_yes) {
-        return false;
-    }
-    let no = book.no;
-    let due_no = due.no;
-    if !same_masks(no, due_no) {
-        return false;
-    }
-    same_facts(book, due)
-}
-
-// Whether the reader gives what is reckoned, the book beside a refusal and the costs included.
+// Whether the reader gives what is reckoned.
 fn agrees(s: &[u8], due: Reckoned) -> bool {
-    let reading = book::read(s);
-    let verdict = reading.verdict;
-    if !says(verdict, due.number, due.place) {
-        return false;
-    }
-    let book = reading.book;
-    if !same_book(book, due) {
-        return false;
-    }
-    let costs = due.costs;
-    same_costs(book::read_costs(s), costs)
+    readings::agree(book::read(s), book::read_costs(s), due)
 }
 
 // Whether the reader gives this number and place.
 fn answers(s: &[u8], number: u8, place: usize) -> bool {
     let reading = book::read(s);
     let verdict = reading.verdict;
-    says(verdict, number, place)
+    readings::says(verdict, number, place)
 }
 
 // One more book that was reckoned, good or refused with a number.

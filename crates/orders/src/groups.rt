@@ -1,6 +1,7 @@
 // Groups of many books, each held against the reckoning.
 use crate::compare;
 use crate::compare::Tally;
+use made_books::made;
 use samples::build;
 use samples::build::Draft;
 use samples::edits;
@@ -80,7 +81,7 @@ pub fn made_up(t: Tally, books: u32, most: u8) -> Tally {
     let mut after = t;
     let mut seed = 88172645463325252;
     for i in 0..books {
-        let d = build::any_book(seed, most);
+        let d = made::any_book(seed, most);
         after = compare::expect(after, d, 0, 0);
         seed = d.seed;
     }
@@ -92,7 +93,7 @@ pub fn edited(t: Tally, books: u32, most: u8) -> Tally {
     let mut after = t;
     let mut seed = 362436069362436069;
     for i in 0..books {
-        let d = edits::much_edited(build::any_book(seed, most));
+        let d = edits::much_edited(made::any_book(seed, most));
         after = compare::count(after, d);
         seed = random::next(d.seed);
     }

@@ -5,7 +5,9 @@ mod compare;
 mod groups;
 
 use compare::Tally;
+use made_books::made;
 use samples::build;
+use samples::counter;
 
 fn line(name: &[u8], tried: u64, differ: u64) {
     io::write_all(1, name);
@@ -38,8 +40,8 @@ fn answers(t: Tally) {
 
 // Groups of good books with one place changed.
 fn near_good_books(t: Tally) -> Tally {
-    let p = build::book_p();
-    let middle = build::made_book(123456789, build::wide_shape(12, 8, 12));
+    let p = counter::order(b'c');
+    let middle = made::book(123456789, made::wide_shape(12, 8, 12));
     let longest = build::longest();
     let t = groups::truncations(groups::truncations(t, p), middle);
     line(b"truncations", t.tried, t.differ);

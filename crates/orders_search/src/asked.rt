@@ -1,7 +1,7 @@
 // The engine's next step, asked for and held against what is due.
-use crate::fillings;
-use crate::fillings::Literals;
-use crate::steps::Taken;
+use brute_force::fillings;
+use brute_force::fillings::Literals;
+use brute_force::steps::Taken;
 use engine::StepAnswer;
 use literals::LiteralSet;
 

@@ -1,6 +1,6 @@
 // The engine's log, asked for and held against what is due.
 ghost use Prim.Native.Nat.{_≤_};
-use crate::logs::Log;
+use brute_force::logs::Log;
 use engine::LogAnswer;
 
 // What the engine answered to a call for the log, number 0 where it wrote one, and the room in which its buffer lay.

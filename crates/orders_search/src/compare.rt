@@ -1,8 +1,8 @@
-// The engine's model and consequence held against the reckoning over all fillings.
-use crate::fillings;
-use crate::fillings::Fillings;
-use crate::fillings::Literals;
-use book::Verdict;
+// The engine's book, model and consequence held against the reckoning.
+use crate::tally;
+use crate::tally::Tally;
+use brute_force::fillings;
+use brute_force::fillings::Literals;
 use engine::ConsequenceAnswer;
 use engine::ModelAnswer;
 use samples::build;
@@ -10,169 +10,99 @@ use samples::build::Draft;
 use samples::reckon;
 use samples::reckon::Reckoned;
 
-// Of a group: how many books were tried, at how many the engine's answer differed from the reckoning.
-// Of the books as reckoned: how many were refused by the reader, how many had no model, how many a consequence with
-// more than the facts; how many had no variables, no choices, no rules.
-pub struct Tally {
-    pub tried: u64,
-    pub models_differ: u64,
-    pub consequences_differ: u64,
-    pub refused: u64,
-    pub without_model: u64,
-    pub with_more: u64,
-    pub no_variables: u64,
-    pub no_choices: u64,
-    pub no_rules: u64,
-}
-
-pub fn none() -> Tally {
-    Tally {
-        tried: 0,
-        models_differ: 0,
-        consequences_differ: 0,
-        refused: 0,
-        without_model: 0,
-        with_more: 0,
-        no_variables: 0,
-        no_choices: 0,
-        no_rules: 0,
-    }
-}
-
-// One more where something is so.
-pub fn more(n: u64, so: bool) -> u64 {
-    if so {
-        std::num::wrapping_add_u64(n, 1)
-    } else {
-        n
-    }
+// What is due of a book: the refusal, or number 0 and what follows.
+struct Due {
+    number: u8,
+    place: usize,
+    forced: Literals,
 }
 
 // Whether a refusal is the one that is due.
-pub fn same_refusal(number: u8, place: usize, due: u8, at: usize) -> bool {
-    if number != due {
+fn same_refusal(number: u8, place: usize, due: Due) -> bool {
+    if number != due.number {
         return false;
     }
-    place == at
+    place == due.place
 }
 
-// Whether `engine::model` gives a model of a good book, or 9 at 0 where there is none.
-fn model_agrees(s: &[u8], b: Reckoned, has_model: bool) -> bool {
+// Whether `engine::model` gives a model, or the refusal that is due.
+fn model_agrees(s: &[u8], b: Reckoned, due: Due) -> bool {
     match engine::model(s) {
-        ModelAnswer::Model(m) => fillings::is_model(b, m),
-        ModelAnswer::Refused { number, place } => {
-            if has_model {
+        ModelAnswer::Model(m) => {
+            if due.number != 0 {
                 return false;
             }
-            same_refusal(number, place, 9, 0)
+            fillings::is_model(b, m)
         }
+        ModelAnswer::Refused { number, place } => same_refusal(number, place, due),
     }
 }
 
-// Whether `engine::consequence` gives these literals of a good book, or 9 at 0 where it has no model.
-fn consequence_agrees(s: &[u8], due: Literals, has_model: bool) -> bool {
+// Whether `engine::consequence` gives what follows, or the refusal that is due.
+fn consequence_agrees(s: &[u8], due: Due) -> bool {
     match engine::consequence(s) {
         ConsequenceAnswer::Forced(set) => {
-            if !has_model {
+            if due.number != 0 {
                 return false;
             }
             let found = Literals {
                 yes: set.yes,
                 no: set.no,
             };
-            fillings::same(found, due)
+            fillings::same(found, due.forced)
         }
-        ConsequenceAnswer::Refused { number, place } => {
-            if has_model {
-                return false;
-            }
-            same_refusal(number, place, 9, 0)
-        }
+        ConsequenceAnswer::Refused { number, place } => same_refusal(number, place, due),
+    }
+}
+
+// What is due of a good book: the consequence, or 9 at 0 where there is no model.
+fn due_of(b: Reckoned, all: &[u64]) -> Due {
+    let facts = fillings::facts(b);
+    Due {
+        number: if fillings::possible(all, facts) { 0 } else { 9 },
+        place: 0,
+        forced: fillings::forced(all, facts, fillings::first(b.choices)),
     }
 }
 
 // How a good book is made up, as far as the tally shows it.
-fn noted(mut t: Tally, b: Reckoned) -> Tally {
-    t.tried = more(t.tried, true);
-    t.no_variables = more(t.no_variables, b.variables == 0);
-    t.no_choices = more(t.no_choices, b.choices == 0);
-    t.no_rules = more(t.no_rules, b.rules == 0);
-    t
+fn seen(t: Tally, b: Reckoned, due: Due) -> Tally {
+    let t = tally::seen(t, tally::NO_VARIABLES, b.variables == 0);
+    let t = tally::seen(t, tally::NO_CHOICES, b.choices == 0);
+    let t = tally::seen(t, tally::NO_RULES, b.rules == 0);
+    if due.number != 0 {
+        return tally::seen(t, tally::NO_MODEL, true);
+    }
+    let more = !fillings::same(due.forced, fillings::facts(b));
+    tally::seen(t, tally::WITH_MORE, more)
 }
 
-// One more good book, its model and its consequence.
-fn good(t: Tally, s: &[u8], b: Reckoned) -> Tally {
-    let mut after = noted(t, b);
-    let obeying = fillings::obeying(b);
-    let room = obeying.room;
-    let all = fillings::part(&room, obeying.count);
-    let facts = fillings::facts(b);
-    let has_model = fillings::possible(all, facts);
-    let due = fillings::forced(all, facts, fillings::first(b.choices));
-    if !model_agrees(s, b, has_model) {
-        after.models_differ = more(after.models_differ, true);
-    }
-    if !consequence_agrees(s, due, has_model) {
-        after.consequences_differ = more(after.consequences_differ, true);
-    }
-    after.without_model = more(after.without_model, !has_model);
-    if has_model {
-        after.with_more = more(after.with_more, !fillings::same(due, facts));
-    }
-    after
+// The answers to a book.
+fn asked(t: Tally, s: &[u8], b: Reckoned, due: Due) -> Tally {
+    let read = readings::agree(engine::read_book(s), engine::read_costs(s), b);
+    let t = tally::noted(t, tally::READING, read);
+    let t = tally::noted(t, tally::MODEL, model_agrees(s, b, due));
+    tally::noted(t, tally::CONSEQUENCE, consequence_agrees(s, due))
 }
 
-// Whether the reader refuses the bytes with this number and place.
-fn reader_refuses(s: &[u8], number: u8, place: usize) -> bool {
-    let reading = book::read(s);
-    let verdict = reading.verdict;
-    match verdict {
-        Verdict::Accepted => false,
-        Verdict::Refused {
-            number: due,
-            place: at,
-        } => same_refusal(number, place, due, at),
-    }
-}
-
-fn model_refused(s: &[u8], due: u8, at: usize) -> bool {
-    match engine::model(s) {
-        ModelAnswer::Model(m) => false,
-        ModelAnswer::Refused { number, place } => same_refusal(number, place, due, at),
-    }
-}
-
-fn consequence_refused(s: &[u8], due: u8, at: usize) -> bool {
-    match engine::consequence(s) {
-        ConsequenceAnswer::Forced(set) => false,
-        ConsequenceAnswer::Refused { number, place } => same_refusal(number, place, due, at),
-    }
-}
-
-// One more book that is refused: by the reader as reckoned, by the engine's calls as by the reader.
-fn bad(mut t: Tally, s: &[u8], b: Reckoned) -> Tally {
-    t.tried = more(t.tried, true);
-    t.refused = more(t.refused, true);
-    let read = reader_refuses(s, b.number, b.place);
-    if !(model_refused(s, b.number, b.place) & read) {
-        t.models_differ = more(t.models_differ, true);
-    }
-    if !(consequence_refused(s, b.number, b.place) & read) {
-        t.consequences_differ = more(t.consequences_differ, true);
-    }
-    t
-}
-
-// One more book. A good one of more than ten variables has too many fillings and is left out.
+// One more book.
 pub fn count(t: Tally, d: Draft) -> Tally {
     let bytes = d.bytes;
     let s = build::part(&bytes, d.len);
     let b = reckon::reckon(s);
     if b.number != 0 {
-        return bad(t, s, b);
+        let refused = Due {
+            number: b.number,
+            place: b.place,
+            forced: fillings::facts(b),
+        };
+        return asked(tally::seen(t, tally::BAD_BOOKS, true), s, b, refused);
     }
-    if b.variables > 10 {
-        return t;
+    let obeying = fillings::obeying(b);
+    if !obeying.whole {
+        return tally::seen(t, tally::LEFT_OUT, true);
     }
-    good(t, s, b)
+    let room = obeying.room;
+    let due = due_of(b, fillings::part(&room, obeying.count));
+    asked(seen(t, b, due), s, b, due)
 }

@@ -1,15 +1,17 @@
 // The same books as whole logs.
 use crate::asked_log;
-use crate::counter;
-use crate::fillings::Literals;
-use crate::logs::Log;
+use crate::counter_steps;
+use crate::tally;
+use crate::tally::Tally;
 use crate::worked;
-use crate::worked::Worked;
+use brute_force::fillings::Literals;
+use brute_force::logs::Log;
 use samples::build;
 use samples::build::Draft;
+use samples::counter;
 
 // A book, the bytes of its log, and the numbers that the call returns.
-fn logs(w: Worked, d: Draft, due: Draft, steps: u64, total: u64) -> Worked {
+fn logs_as(t: Tally, d: Draft, due: Draft, steps: u64, total: u64) -> Tally {
     let bytes = d.bytes;
     let s = build::part(&bytes, d.len);
     let log = Log {
@@ -19,36 +21,40 @@ fn logs(w: Worked, d: Draft, due: Draft, steps: u64, total: u64) -> Worked {
         total,
         ended: true,
     };
-    counter::noted(w, asked_log::log_agrees(s, 547, log))
+    tally::noted(t, tally::COUNTER_LOGS, asked_log::log_agrees(s, 547, log))
 }
 
-// A book whose log is refused.
-fn refuses(w: Worked, d: Draft, number: u8, place: usize) -> Worked {
+// An order that has a log of so many steps and this total.
+fn order(t: Tally, letter: u8, steps: u64, total: u64) -> Tally {
+    logs_as(
+        t,
+        counter::order(letter),
+        worked::log_of(letter),
+        steps,
+        total,
+    )
+}
+
+// An order whose log is refused.
+fn refuses(t: Tally, letter: u8, number: u8, place: usize) -> Tally {
+    let d = counter::order(letter);
     let bytes = d.bytes;
     let s = build::part(&bytes, d.len);
-    counter::noted(w, asked_log::log_refused(s, 547, number, place))
+    let agrees = asked_log::log_refused(s, 547, number, place);
+    tally::noted(t, tally::COUNTER_LOGS, agrees)
 }
 
 // Orders b, c, d, g, h and i.
-fn logs_of_orders(w: Worked) -> Worked {
-    let w = logs(w, counter::order_b(), worked::log_h(), 0, 0);
-    let w = logs(w, build::book_p(), worked::log_p(), 2, 20);
-    let w = logs(w, worked::order_d(), worked::log_d(), 1, 9);
-    let w = logs(w, worked::order_g(), worked::log_g(), 1, 5);
-    let w = logs(w, worked::order_h(), worked::log_h(), 0, 0);
-    logs(w, worked::order_i(), worked::log_i(), 1, 2)
+fn logs_of_orders(t: Tally) -> Tally {
+    let t = order(order(t, b'b', 0, 0), b'c', 2, 20);
+    let t = order(order(t, b'd', 1, 9), b'g', 1, 5);
+    order(order(t, b'h', 0, 0), b'i', 1, 2)
 }
 
 // Orders a, e, f and j.
-fn refused_orders(w: Worked) -> Worked {
-    let w = refuses(w, build::empty(), 1, 0);
-    let w = refuses(
-        refuses(w, counter::order_e(), 9, 0),
-        counter::order_f(),
-        9,
-        0,
-    );
-    refuses(w, counter::order_j(), 6, 12)
+fn refused_orders(t: Tally) -> Tally {
+    let t = refuses(refuses(t, b'a', 1, 0), b'e', 9, 0);
+    refuses(refuses(t, b'f', 9, 0), b'j', 6, 12)
 }
 
 // Ten steps, each of a choice from its fact.
@@ -57,16 +63,15 @@ fn pair_log() -> Draft {
     for i in 0..10 {
         let v = std::num::wrapping_add_u8(i, 1);
         let choice = std::num::wrapping_add_u8(v, 10);
-        made = build::put(build::put2(made, b'S', b'T'), choice);
+        made = build::put(build::bytes(made, b"ST"), choice);
         made = build::put2(build::put2(made, 1, v), 1, choice);
         made = build::pair(made, 14);
     }
-    let ended = build::put(build::put2(made, b'O', b'K'), 10);
-    build::pair(build::pair(ended, 0), 140)
+    build::bytes(made, b"OK\x0a\x00\x00\x00\x8c")
 }
 
 // All of them.
-pub fn all() -> Worked {
-    let w = refused_orders(logs_of_orders(worked::none()));
-    logs(w, counter::pairs(), pair_log(), 10, 140)
+pub fn all(t: Tally) -> Tally {
+    let t = refused_orders(logs_of_orders(t));
+    logs_as(t, counter_steps::pairs(), pair_log(), 10, 140)
 }

@@ -1,34 +1,35 @@
 // The whole logs of the books that are walked.
 use crate::asked_log;
-use crate::logs::Log;
-use crate::walks;
-use crate::walks::Walked;
+use crate::tally;
+use crate::tally::Tally;
+use brute_force::logs::Log;
+
+// The log into a buffer of so many bytes.
+fn agrees(t: Tally, s: &[u8], len: usize, log: Log) -> Tally {
+    tally::noted(t, tally::WHOLE_LOG, asked_log::log_agrees(s, len, log))
+}
+
+// No log, with this number and place, into a buffer of so many bytes.
+fn refuses(t: Tally, group: usize, s: &[u8], len: usize, number: u8, place: usize) -> Tally {
+    tally::noted(t, group, asked_log::log_refused(s, len, number, place))
+}
 
 // The log of a book that has a model, into buffers of several lengths.
-pub fn whole(w: Walked, s: &[u8], log: Log) -> Walked {
-    let w = walks::noted(w, walks::WHOLE_LOG, asked_log::log_agrees(s, 547, log));
-    let w = walks::noted(w, walks::WHOLE_LOG, asked_log::log_agrees(s, 548, log));
-    let w = walks::noted(w, walks::WHOLE_LOG, asked_log::log_agrees(s, 640, log));
-    let w = walks::noted(w, walks::SHORT_BUFFER, asked_log::log_refused(s, 546, 8, 0));
-    walks::noted(w, walks::SHORT_BUFFER, asked_log::log_refused(s, 0, 8, 0))
+pub fn whole(t: Tally, s: &[u8], log: Log) -> Tally {
+    let t = agrees(agrees(t, s, 547, log), s, 548, log);
+    let t = agrees(t, s, 640, log);
+    let t = refuses(t, tally::SHORT_BUFFER, s, 546, 8, 0);
+    refuses(t, tally::SHORT_BUFFER, s, 0, 8, 0)
 }
 
 // A book without a model: 9 at 0, and 8 at 0 where the buffer is short.
-pub fn without_model(w: Walked, s: &[u8]) -> Walked {
-    let w = walks::noted(w, walks::NO_LOG, asked_log::log_refused(s, 547, 9, 0));
-    walks::noted(w, walks::SHORT_BUFFER, asked_log::log_refused(s, 546, 8, 0))
+pub fn without_model(t: Tally, s: &[u8]) -> Tally {
+    let t = refuses(t, tally::NO_LOG, s, 547, 9, 0);
+    refuses(t, tally::SHORT_BUFFER, s, 546, 8, 0)
 }
 
 // A book that is refused: the reader's number and place, also where the buffer is short.
-pub fn refused(w: Walked, s: &[u8], number: u8, place: usize) -> Walked {
-    let w = walks::noted(
-        w,
-        walks::NO_LOG,
-        asked_log::log_refused(s, 547, number, place),
-    );
-    walks::noted(
-        w,
-        walks::NO_LOG,
-        asked_log::log_refused(s, 546, number, place),
-    )
+pub fn refused(t: Tally, s: &[u8], number: u8, place: usize) -> Tally {
+    let t = refuses(t, tally::NO_LOG, s, 547, number, place);
+    refuses(t, tally::NO_LOG, s, 546, number, place)
 }

@@ -1,91 +1,18 @@
 // Books walked from the facts to the consequence: each step, steps from other known sets, and the whole log.
 use crate::asked;
-use crate::compare;
-use crate::fillings;
-use crate::fillings::Literals;
 use crate::logged;
-use crate::logs;
-use crate::logs::Log;
-use crate::steps;
+use crate::tally;
+use crate::tally::Tally;
+use brute_force::fillings;
+use brute_force::fillings::Literals;
+use brute_force::logs;
+use brute_force::logs::Log;
+use brute_force::steps;
 use samples::build;
 use samples::build::Draft;
 use samples::random;
 use samples::reckon;
 use samples::reckon::Reckoned;
-
-// Steps on the way from the facts to the consequence, "nothing left" at its end included.
-pub const ON_THE_WAY: usize = 0;
-
-// Steps from the facts and any of the consequence.
-pub const FROM_ANY: usize = 1;
-
-// Known sets that are refused: without a fact, with a literal outside the consequence, with a variable both ways, with a
-// variable that is no choice.
-pub const FACT_MISSING: usize = 2;
-
-pub const TOO_MUCH: usize = 3;
-
-pub const BOTH_WAYS: usize = 4;
-
-pub const NO_CHOICE: usize = 5;
-
-// Books without a model, and books that are refused.
-pub const WITHOUT_MODEL: usize = 6;
-
-pub const REFUSED: usize = 7;
-
-// Logs, buffers that are too short for one, and logs of books without a model or refused.
-pub const WHOLE_LOG: usize = 8;
-
-pub const SHORT_BUFFER: usize = 9;
-
-pub const NO_LOG: usize = 10;
-
-pub const GROUPS: usize = NO_LOG + 1;
-
-// Of each group: how often the engine was asked, and how often its answer was not what is due.
-// Of the steps on the way: at how many several candidates had the least cost.
-// Of the logs: how many had no step, one, two, .. and seven or more.
-pub struct Walked {
-    pub tried: [u64; GROUPS],
-    pub differ: [u64; GROUPS],
-    pub tied: u64,
-    pub by_steps: [u64; 8],
-}
-
-pub fn none() -> Walked {
-    Walked {
-        tried: [0; GROUPS],
-        differ: [0; GROUPS],
-        tied: 0,
-        by_steps: [0; 8],
-    }
-}
-
-// One more answer of a group.
-pub fn noted(mut w: Walked, group: usize, agrees: bool) -> Walked {
-    if group < GROUPS {
-        let tried = w.tried[group];
-        w.tried[group] = std::num::wrapping_add_u64(tried, 1);
-        let differ = w.differ[group];
-        w.differ[group] = compare::more(differ, !agrees);
-    }
-    w
-}
-
-// One more log of so many steps.
-fn noted_steps(mut w: Walked, steps: u64) -> Walked {
-    let i = place_of(steps);
-    if i < 8 {
-        let n = w.by_steps[i];
-        w.by_steps[i] = std::num::wrapping_add_u64(n, 1);
-    }
-    w
-}
-
-fn place_of(steps: u64) -> usize {
-    if steps < 7 { steps as usize } else { 7 }
-}
 
 // What is reckoned of a book once; the choices as a number and as a mask.
 pub struct Case {
@@ -110,16 +37,14 @@ fn case_of(all: &[u64], b: Reckoned) -> Case {
 }
 
 // One step more on the way: the engine's held against the reckoned one.
-fn one_step(w: Walked, s: &[u8], known: Literals, due: steps::Taken) -> Walked {
-    let mut after = noted(w, ON_THE_WAY, asked::step_agrees(s, known, due));
-    let tied = after.tied;
-    after.tied = compare::more(tied, due.tied);
-    after
+fn one_step(t: Tally, s: &[u8], known: Literals, due: steps::Taken) -> Tally {
+    let t = tally::noted(t, tally::ON_THE_WAY, asked::step_agrees(s, known, due));
+    tally::seen(t, tally::TIED, due.tied)
 }
 
 // The way and its log as reckoned, the engine asked at each known set.
 pub struct Way {
-    pub walked: Walked,
+    pub tally: Tally,
     pub log: Log,
 }
 
@@ -132,18 +57,18 @@ fn onward(way: Way, s: &[u8], all: &[u64], case: Case) -> Way {
     let costs = case.costs;
     let known = log.known;
     let due = steps::next(all, costs, case.choices, known, case.consequence);
-    let walked = way.walked;
+    let t = way.tally;
     Way {
-        walked: one_step(walked, s, known, due),
+        tally: one_step(t, s, known, due),
         log: logs::onward(log, due),
     }
 }
 
 // All known sets on the way.
-fn along(w: Walked, s: &[u8], all: &[u64], case: Case) -> Way {
+fn along(t: Tally, s: &[u8], all: &[u64], case: Case) -> Way {
     let facts = case.facts;
     let mut way = Way {
-        walked: w,
+        tally: t,
         log: logs::begun(facts),
     };
     let records: u8 = 21;
@@ -159,16 +84,16 @@ fn known_set(case: Case, mask: u64) -> Literals {
 }
 
 // A step from one known set.
-fn from_one(w: Walked, s: &[u8], all: &[u64], case: Case, mask: u64) -> Walked {
+fn from_one(t: Tally, s: &[u8], all: &[u64], case: Case, mask: u64) -> Tally {
     let known = known_set(case, mask);
     let costs = case.costs;
     let due = steps::next(all, costs, case.choices, known, case.consequence);
-    noted(w, FROM_ANY, asked::step_agrees(s, known, due))
+    tally::noted(t, tally::FROM_ANY, asked::step_agrees(s, known, due))
 }
 
 // Steps from some known sets.
-fn from_any(w: Walked, s: &[u8], all: &[u64], case: Case, seed: u64) -> Walked {
-    let mut after = w;
+fn from_any(t: Tally, s: &[u8], all: &[u64], case: Case, seed: u64) -> Tally {
+    let mut after = t;
     let mut mask = seed;
     let sets: u8 = 4;
     for i in 0..sets {
@@ -189,32 +114,32 @@ fn is_proper(case: Case, known: Literals) -> bool {
 // The group of a known set that is refused.
 fn group_of(case: Case, known: Literals) -> usize {
     if (known.yes | known.no) & !case.choices != 0 {
-        return NO_CHOICE;
+        return tally::NO_CHOICE;
     }
     if known.yes & known.no != 0 {
-        return BOTH_WAYS;
+        return tally::BOTH_WAYS;
     }
     if fillings::is_empty(fillings::less(case.facts, known)) {
-        TOO_MUCH
+        tally::TOO_MUCH
     } else {
-        FACT_MISSING
+        tally::FACT_MISSING
     }
 }
 
 // A known set that may have been spoilt: 10 at 0 where it was.
-fn spoilt(w: Walked, s: &[u8], case: Case, known: Literals) -> Walked {
+fn spoilt(t: Tally, s: &[u8], case: Case, known: Literals) -> Tally {
     if is_proper(case, known) {
-        return w;
+        return t;
     }
-    noted(
-        w,
+    tally::noted(
+        t,
         group_of(case, known),
         asked::step_refused(s, known, 10, 0),
     )
 }
 
 // A known set with one variable yes as well, no as well, and without it.
-fn spoilt_at(w: Walked, s: &[u8], case: Case, known: Literals, bit: u64) -> Walked {
+fn spoilt_at(t: Tally, s: &[u8], case: Case, known: Literals, bit: u64) -> Tally {
     let with_yes = Literals {
         yes: known.yes | bit,
         no: known.no,
@@ -223,14 +148,14 @@ fn spoilt_at(w: Walked, s: &[u8], case: Case, known: Literals, bit: u64) -> Walk
         yes: known.yes,
         no: known.no | bit,
     };
-    let w = spoilt(spoilt(w, s, case, with_yes), s, case, with_no);
-    spoilt(w, s, case, fillings::within(known, !bit))
+    let t = spoilt(spoilt(t, s, case, with_yes), s, case, with_no);
+    spoilt(t, s, case, fillings::within(known, !bit))
 }
 
 // A known set spoilt at each choice, at the two variables after them and at the last bit.
-fn spoilt_sets(w: Walked, s: &[u8], case: Case, seed: u64) -> Walked {
+fn spoilt_sets(t: Tally, s: &[u8], case: Case, seed: u64) -> Tally {
     let known = known_set(case, seed);
-    let mut after = spoilt_at(w, s, case, known, fillings::power(63));
+    let mut after = spoilt_at(t, s, case, known, fillings::power(63));
     let end = std::num::wrapping_add_usize(case.count, 2);
     for v in 0..end {
         after = spoilt_at(after, s, case, known, fillings::power(v));
@@ -239,46 +164,62 @@ fn spoilt_sets(w: Walked, s: &[u8], case: Case, seed: u64) -> Walked {
 }
 
 // A book without a model: 9 at 0, also where the known set is wrong.
-fn without_model(w: Walked, s: &[u8], facts: Literals) -> Walked {
-    let w = noted(w, WITHOUT_MODEL, asked::step_refused(s, facts, 9, 0));
+fn without_model(t: Tally, s: &[u8], facts: Literals) -> Tally {
+    let t = tally::noted(t, tally::WITHOUT_MODEL, asked::step_refused(s, facts, 9, 0));
     let wrong = Literals { yes: 1, no: 1 };
-    noted(w, WITHOUT_MODEL, asked::step_refused(s, wrong, 9, 0))
+    tally::noted(t, tally::WITHOUT_MODEL, asked::step_refused(s, wrong, 9, 0))
 }
 
 // A book that is refused: the reader's number and place, also where the known set is wrong.
-fn refused(w: Walked, s: &[u8], number: u8, place: usize) -> Walked {
+fn refused(t: Tally, s: &[u8], number: u8, place: usize) -> Tally {
     let nothing = Literals { yes: 0, no: 0 };
-    let w = noted(w, REFUSED, asked::step_refused(s, nothing, number, place));
+    let t = tally::noted(
+        t,
+        tally::REFUSED,
+        asked::step_refused(s, nothing, number, place),
+    );
     let wrong = Literals { yes: 1, no: 1 };
-    noted(w, REFUSED, asked::step_refused(s, wrong, number, place))
+    tally::noted(
+        t,
+        tally::REFUSED,
+        asked::step_refused(s, wrong, number, place),
+    )
 }
 
-// A good book.
-fn good(w: Walked, s: &[u8], b: Reckoned, seed: u64) -> Walked {
-    let obeying = fillings::obeying(b);
-    let room = obeying.room;
-    let all = fillings::part(&room, obeying.count);
+// The place of a log of so many steps among the kinds.
+fn place_of(steps: u64) -> usize {
+    if steps < 7 {
+        tally::STEPS + steps as usize
+    } else {
+        tally::MORE_STEPS
+    }
+}
+
+// A good book and the fillings that obey its rules.
+fn good(t: Tally, s: &[u8], b: Reckoned, all: &[u64], seed: u64) -> Tally {
     let case = case_of(all, b);
     if !fillings::possible(all, case.facts) {
-        return logged::without_model(without_model(w, s, case.facts), s);
+        return logged::without_model(without_model(t, s, case.facts), s);
     }
-    let way = along(w, s, all, case);
-    let walked = way.walked;
+    let way = along(t, s, all, case);
     let log = way.log;
-    let after = from_any(noted_steps(walked, log.steps), s, all, case, seed);
-    logged::whole(spoilt_sets(after, s, case, random::next(seed)), s, log)
+    let t = tally::seen(way.tally, place_of(log.steps), true);
+    let t = from_any(t, s, all, case, seed);
+    logged::whole(spoilt_sets(t, s, case, random::next(seed)), s, log)
 }
 
-// One more book. A good one of more than ten variables has too many fillings and is left out.
-pub fn count(w: Walked, d: Draft) -> Walked {
+// One more book.
+pub fn count(t: Tally, d: Draft) -> Tally {
     let bytes = d.bytes;
     let s = build::part(&bytes, d.len);
     let b = reckon::reckon(s);
     if b.number != 0 {
-        return logged::refused(refused(w, s, b.number, b.place), s, b.number, b.place);
+        return logged::refused(refused(t, s, b.number, b.place), s, b.number, b.place);
     }
-    if b.variables > 10 {
-        return w;
+    let obeying = fillings::obeying(b);
+    if !obeying.whole {
+        return tally::seen(t, tally::LEFT_OUT, true);
     }
-    good(w, s, b, d.seed)
+    let room = obeying.room;
+    good(t, s, b, fillings::part(&room, obeying.count), d.seed)
 }

@@ -1,5 +1,8 @@
 // Sample books, which the test programs share: built as bytes, made up, edited, and reckoned by a pass of their own.
 pub mod build;
+pub mod counter;
 pub mod edits;
+mod fields;
+mod machine;
 pub mod random;
 pub mod reckon;

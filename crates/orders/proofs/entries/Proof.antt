@@ -4,14 +4,8 @@ use Prim.Native.Nat.{_-_}
 use Rattle.orders.proofs.entries.Statement.{statement}
 use Rattle.orders.proofs.entries.Tie as tie
 
-abbrev Inv-loop : tie.InvT-loop
-Inv-loop t i₀ i = Unit {0}
-
-abbrev μ-loop : tie.MeasureT-loop
-μ-loop t i₀ i = 8 - i
-
 pub entries-spec : {M : Type 1} → statement M
 entries-spec =
-    tie.close (tie.spec Inv-loop μ-loop
-    (λ c. search needs) (λ c. search needs) (λ c. search needs) (λ c κs. search needs) (λ c. search needs)
-    (λ c. search needs) (λ c. search needs) (λ c. search needs))
+    tie.close (tie.spec (λ _ _ _. Unit {0}) (λ _ _ i. 8 - i) (λ c. search needs) (λ c. search needs)
+    (λ c. search needs) (λ c κs. search needs) (λ c. search needs) (λ c. search needs) (λ c. search needs)
+    (λ c. search needs))

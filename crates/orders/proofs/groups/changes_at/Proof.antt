@@ -4,14 +4,8 @@ use Prim.Native.Nat.{_-_}
 use Rattle.orders.proofs.groups.changes_at.Statement.{statement}
 use Rattle.orders.proofs.groups.changes_at.Tie as tie
 
-abbrev Inv-loop : tie.InvT-loop
-Inv-loop d place after₀ b₀ after b = Unit {0}
-
-abbrev μ-loop : tie.MeasureT-loop
-μ-loop d place after₀ b₀ after b = 256 - b
-
 pub changes-at-spec : {M : Type 1} → statement M
 changes-at-spec =
-    tie.close (tie.spec Inv-loop μ-loop
-    (λ c. search needs) (λ c κs. search needs) (λ c κs. search needs) (λ c κs. search needs) (λ c. search needs)
-    (λ c. search needs) (λ c. search needs) (λ c. search needs))
+    tie.close (tie.spec (λ _ _ _ _ _ _. Unit {0}) (λ _ _ _ _ _ b. 256 - b) (λ c. search needs) (λ c κs. search needs)
+    (λ c κs. search needs) (λ c κs. search needs) (λ c. search needs) (λ c. search needs) (λ c. search needs)
+    (λ c. search needs))

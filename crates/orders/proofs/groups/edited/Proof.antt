@@ -4,14 +4,8 @@ use Prim.Native.Nat.{_-_}
 use Rattle.orders.proofs.groups.edited.Statement.{statement}
 use Rattle.orders.proofs.groups.edited.Tie as tie
 
-abbrev Inv-loop : tie.InvT-loop
-Inv-loop books most after₀ seed₀ i₀ after seed i = Unit {0}
-
-abbrev μ-loop : tie.MeasureT-loop
-μ-loop books most after₀ seed₀ i₀ after seed i = books - i
-
 pub edited-spec : {M : Type 1} → statement M
 edited-spec =
-    tie.close (tie.spec Inv-loop μ-loop
-    (λ c. search needs) (λ c κs. search needs) (λ c κs. search needs) (λ c κs. search needs) (λ c κs. search needs)
-    (λ c. search needs) (λ c. search needs) (λ c. search needs) (λ c. search needs))
+    tie.close (tie.spec (λ _ _ _ _ _ _ _ _. Unit {0}) (λ books _ _ _ _ _ _ i. books - i) (λ c. search needs)
+    (λ c κs. search needs) (λ c κs. search needs) (λ c κs. search needs) (λ c κs. search needs) (λ c. search needs)
+    (λ c. search needs) (λ c. search needs) (λ c. search needs))

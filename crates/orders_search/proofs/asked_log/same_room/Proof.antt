@@ -4,14 +4,8 @@ use Prim.Native.Nat.{_-_}
 use Rattle.orders_search.proofs.asked_log.same_room.Statement.{statement}
 use Rattle.orders_search.proofs.asked_log.same_room.Tie as tie
 
-abbrev Inv-loop : tie.InvT-loop
-Inv-loop len room bytes i₀ i = Unit {0}
-
-abbrev μ-loop : tie.MeasureT-loop
-μ-loop len room bytes i₀ i = 640 - i
-
 pub same-room-spec : {M : Type 1} → statement M
 same-room-spec =
-    tie.close (tie.spec Inv-loop μ-loop
+    tie.close (tie.spec (λ _ _ _ _ _. Unit {0}) (λ _ _ _ _ i. 640 - i) (λ c. search needs) (λ c. search needs)
     (λ c. search needs) (λ c. search needs) (λ c. search needs) (λ c. search needs) (λ c. search needs)
-    (λ c. search needs) (λ c. search needs) (λ c. search needs))
+    (λ c. search needs))

@@ -4,16 +4,9 @@ use Prim.Native.Nat.{_-_}
 use Rattle.orders_search.proofs.counter_logs.pair_log.Statement.{statement}
 use Rattle.orders_search.proofs.counter_logs.pair_log.Tie as tie
 
-abbrev Inv-loop : tie.InvT-loop
-Inv-loop made₀ i₀ made i = Unit {0}
-
-abbrev μ-loop : tie.MeasureT-loop
-μ-loop made₀ i₀ made i = 10 - i
-
 pub pair-log-spec : {M : Type 1} → statement M
 pair-log-spec =
-    tie.close (tie.spec Inv-loop μ-loop
-    (λ c κs. search needs) (λ c. search needs) (λ c κs. search needs) (λ c κs. search needs) (λ c κs. search needs)
-    (λ c κs. search needs) (λ c κs. search needs) (λ c κs. search needs) (λ c κs. search needs) (λ c. search needs)
-    (λ c. search needs) (λ c. search needs) (λ c κs. search needs) (λ c κs. search needs) (λ c κs. search needs)
-    (λ c κs. search needs) (λ c. search needs))
+    tie.close (tie.spec (λ _ _ _ _ _ _. Unit {0}) (λ _ _ _ _ _ i. 10 - i) (λ c κs. search needs) (λ c. search needs)
+    (λ c κs. search needs) (λ c κs. search needs) (λ c. search needs) (λ c κs. search needs) (λ c κs. search needs)
+    (λ c κs. search needs) (λ c κs. search needs) (λ c κs. search needs) (λ c. search needs) (λ c. search needs)
+    (λ c. search needs) (λ c. search needs) (λ c κs. search needs) (λ c. search needs))

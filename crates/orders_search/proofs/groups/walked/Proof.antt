@@ -4,14 +4,8 @@ use Prim.Native.Nat.{_-_}
 use Rattle.orders_search.proofs.groups.walked.Statement.{statement}
 use Rattle.orders_search.proofs.groups.walked.Tie as tie
 
-abbrev Inv-loop : tie.InvT-loop
-Inv-loop books variables choices cost after₀ seed₀ i₀ after seed i = Unit {0}
-
-abbrev μ-loop : tie.MeasureT-loop
-μ-loop books variables choices cost after₀ seed₀ i₀ after seed i = books - i
-
 pub walked-spec : {M : Type 1} → statement M
 walked-spec =
-    tie.close (tie.spec Inv-loop μ-loop
-    (λ c. search needs) (λ c κs. search needs) (λ c κs. search needs) (λ c κs. search needs) (λ c κs. search needs)
-    (λ c κs. search needs) (λ c. search needs) (λ c. search needs) (λ c. search needs) (λ c. search needs))
+    tie.close (tie.spec (λ _ _ _ _ _ _ _ _ _. Unit {0}) (λ books _ _ _ _ _ _ _ i. books - i) (λ c. search needs)
+    (λ c κs. search needs) (λ c κs. search needs) (λ c κs. search needs) (λ c. search needs) (λ c. search needs)
+    (λ c. search needs) (λ c. search needs))

@@ -4,14 +4,7 @@ use Prim.Native.Nat.{_-_}
 use Rattle.samples.proofs.build.equal_rules.Statement.{statement}
 use Rattle.samples.proofs.build.equal_rules.Tie as tie
 
-abbrev Inv-loop : tie.InvT-loop
-Inv-loop rules made₀ i₀ made i = Unit {0}
-
-abbrev μ-loop : tie.MeasureT-loop
-μ-loop rules made₀ i₀ made i = rules - i
-
 pub equal-rules-spec : {M : Type 1} → statement M
 equal-rules-spec =
-    tie.close (tie.spec Inv-loop μ-loop
-    (λ c. search needs) (λ c κs. search needs) (λ c. search needs) (λ c. search needs) (λ c. search needs)
-    (λ c. search needs))
+    tie.close (tie.spec (λ _ _ _ _ _. Unit {0}) (λ rules _ _ _ i. rules - i) (λ c. search needs)
+    (λ c κs. search needs) (λ c. search needs) (λ c. search needs) (λ c. search needs) (λ c. search needs))

@@ -4,14 +4,8 @@ use Prim.Native.Nat.{_-_}
 use Rattle.samples.proofs.build.facts_no.Statement.{statement}
 use Rattle.samples.proofs.build.facts_no.Tie as tie
 
-abbrev Inv-loop : tie.InvT-loop
-Inv-loop choices made₀ i₀ made i = Unit {0}
-
-abbrev μ-loop : tie.MeasureT-loop
-μ-loop choices made₀ i₀ made i = choices - i
-
 pub facts-no-spec : {M : Type 1} → statement M
 facts-no-spec =
-    tie.close (tie.spec Inv-loop μ-loop
-    (λ c. search needs) (λ c κs. search needs) (λ c κs. search needs) (λ c κs. search needs) (λ c. search needs)
-    (λ c. search needs) (λ c. search needs) (λ c. search needs))
+    tie.close (tie.spec (λ _ _ _ _ _. Unit {0}) (λ choices _ _ _ i. choices - i) (λ c. search needs)
+    (λ c κs. search needs) (λ c κs. search needs) (λ c κs. search needs) (λ c. search needs) (λ c. search needs)
+    (λ c. search needs) (λ c. search needs))

@@ -4,14 +4,8 @@ use Prim.Native.Nat.{_-_}
 use Rattle.samples.proofs.build.long_rule.Statement.{statement}
 use Rattle.samples.proofs.build.long_rule.Tie as tie
 
-abbrev Inv-loop : tie.InvT-loop
-Inv-loop first count made₀ i₀ made i = Unit {0}
-
-abbrev μ-loop : tie.MeasureT-loop
-μ-loop first count made₀ i₀ made i = count - i
-
 pub long-rule-spec : {M : Type 1} → statement M
 long-rule-spec =
-    tie.close (tie.spec Inv-loop μ-loop
-    (λ c κs. search needs) (λ c. search needs) (λ c κs. search needs) (λ c κs. search needs) (λ c. search needs)
-    (λ c. search needs) (λ c. search needs) (λ c. search needs))
+    tie.close (tie.spec (λ _ _ _ _ _ _. Unit {0}) (λ _ count _ _ _ i. count - i) (λ c κs. search needs)
+    (λ c. search needs) (λ c κs. search needs) (λ c κs. search needs) (λ c. search needs) (λ c. search needs)
+    (λ c. search needs) (λ c. search needs))

@@ -4,14 +4,8 @@ use Prim.Native.Nat.{_-_}
 use Rattle.samples.proofs.edits.without.Statement.{statement}
 use Rattle.samples.proofs.edits.without.Tie as tie
 
-abbrev Inv-loop : tie.InvT-loop
-Inv-loop place made₀ i₀ made i = Unit {0}
-
-abbrev μ-loop : tie.MeasureT-loop
-μ-loop place made₀ i₀ made i = 2047 - i
-
 pub without-spec : {M : Type 1} → statement M
 without-spec =
-    tie.close (tie.spec Inv-loop μ-loop
+    tie.close (tie.spec (λ _ _ _ _ _. Unit {0}) (λ _ _ _ _ i. 2047 - i) (λ c. search needs) (λ c. search needs)
     (λ c. search needs) (λ c. search needs) (λ c. search needs) (λ c. search needs) (λ c. search needs)
-    (λ c. search needs) (λ c. search needs) (λ c. search needs) (λ c. search needs) (λ c. search needs))
+    (λ c. search needs) (λ c. search needs) (λ c. search needs))

@@ -4,15 +4,9 @@ use Prim.Native.Nat.{_-_}
 use Rattle.samples.proofs.reckon.reckon.Statement.{statement}
 use Rattle.samples.proofs.reckon.reckon.Tie as tie
 
-abbrev Inv-loop : tie.InvT-loop
-Inv-loop s m₀ yes₀ no₀ costs₀ i₀ i-end m yes' no' costs i = Unit {0}
-
-abbrev μ-loop : tie.MeasureT-loop
-μ-loop s m₀ yes₀ no₀ costs₀ i₀ i-end m yes' no' costs i = i-end - i
-
 pub reckon-spec : {M : Type 1} → statement M
 reckon-spec =
-    tie.close (tie.spec Inv-loop μ-loop
+    tie.close (tie.spec (λ _ _ _ _ _ _ _ _ _ _ _ _. Unit {0}) (λ _ _ _ _ _ _ i-end _ _ _ _ i. i-end - i)
     (λ c κs. search needs) (λ c. search needs) (λ c. search needs) (λ c κs. search needs) (λ c κs. search needs)
     (λ c κs. search needs) (λ c κs. search needs) (λ c. search needs) (λ c. search needs) (λ c. search needs)
     (λ c κs. search needs) (λ c κs. search needs) (λ c. search needs) (λ c κs. search needs) (λ c κs. search needs)

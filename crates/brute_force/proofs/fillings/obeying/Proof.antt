@@ -1,0 +1,11 @@
+-- The loop counts `filling` up to `all`.
+use borrow.Author.Needs.{needs}
+use Prim.Native.Nat.{_-_}
+use Rattle.brute_force.proofs.fillings.obeying.Statement.{statement}
+use Rattle.brute_force.proofs.fillings.obeying.Tie as tie
+
+pub obeying-spec : {M : Type 1} → statement M
+obeying-spec =
+    tie.close (tie.spec (λ _ _ _ _ _ _ _ _. Unit {0}) (λ _ _ _ all _ _ _ filling. all - filling)
+    (λ c κs. search needs) (λ c. search needs) (λ c κs. search needs) (λ c κs. search needs) (λ c. search needs)
+    (λ c. search needs) (λ c. search needs) (λ c. search needs))

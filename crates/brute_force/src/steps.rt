@@ -1,0 +1,198 @@
+// The next step reckoned over every goal, every set of known literals and every filling that obeys the rules.
+use crate::fillings;
+use crate::fillings::Literals;
+
+// A goal and a set of known literals: the goal's variable and those of the set as masks, and what the two cost.
+// Masks of one variable are in the order of the variables, and a mask is the sum of 2^(v-1) over its variables v.
+pub struct Candidate {
+    pub found: bool,
+    pub cost: u64,
+    pub goal: u64,
+    pub from: u64,
+    // Whether another one costs the same.
+    pub tied: bool,
+}
+
+// The step, or that nothing is left. The goal is a set of one literal.
+pub struct Taken {
+    pub found: bool,
+    pub goal: Literals,
+    pub reasons: Literals,
+    pub new: Literals,
+    pub cost: u64,
+    // Whether another candidate costs the same.
+    pub tied: bool,
+}
+
+// A set of known literals, by its variables too, and what it costs.
+struct Set {
+    from: u64,
+    literals: Literals,
+    cost: u64,
+}
+
+fn wide(cost: u16) -> u64 {
+    cost as u64
+}
+
+// The cost at a place of the row of costs.
+fn cost_at(costs: [u16; 40], place: usize) -> u64 {
+    if place < 40 { wide(costs[place]) } else { 0 }
+}
+
+// What the literals over choice v + 1 cost.
+fn cost_of_one(costs: [u16; 40], set: Literals, v: usize) -> u64 {
+    let place = std::num::wrapping_add_usize(v, v);
+    if fillings::has(set.yes, v) {
+        return cost_at(costs, place);
+    }
+    if fillings::has(set.no, v) {
+        return cost_at(costs, std::num::wrapping_add_usize(place, 1));
+    }
+    0
+}
+
+// The sum of the costs of a set of literals.
+fn cost_of(costs: [u16; 40], set: Literals) -> u64 {
+    let mut sum = 0;
+    for v in 0..20 {
+        sum = std::num::wrapping_add_u64(sum, cost_of_one(costs, set, v));
+    }
+    sum
+}
+
+// Whether `a` goes before `b`: by cost, then by the goal, then by the set.
+fn goes_before(a: Candidate, b: Candidate) -> bool {
+    if !b.found {
+        return true;
+    }
+    if a.cost != b.cost {
+        return a.cost < b.cost;
+    }
+    if a.goal != b.goal {
+        return a.goal < b.goal;
+    }
+    a.from < b.from
+}
+
+// The better of a candidate and the best so far, and whether the two cost the same.
+fn better(made: Candidate, best: Candidate) -> Candidate {
+    let equal = best.found && made.cost == best.cost;
+    let mut kept = if goes_before(made, best) { made } else { best };
+    if equal {
+        kept.tied = true;
+    }
+    kept
+}
+
+// One goal for a set of known literals: the better of the two and the best so far.
+fn tried(all: &[u64], costs: [u16; 40], set: Set, goal: Literals, best: Candidate) -> Candidate {
+    let opposite = Literals {
+        yes: goal.no,
+        no: goal.yes,
+    };
+    let made = Candidate {
+        found: true,
+        cost: std::num::wrapping_add_u64(set.cost, cost_of(costs, opposite)),
+        goal: goal.yes | goal.no,
+        from: set.from,
+        tied: false,
+    };
+    if fillings::possible(all, fillings::joined(set.literals, opposite)) {
+        best
+    } else {
+        better(made, best)
+    }
+}
+
+// Every goal for a set of known literals.
+fn over_goals(
+    all: &[u64],
+    costs: [u16; 40],
+    set: Set,
+    goals: Literals,
+    best: Candidate,
+) -> Candidate {
+    let mut kept = best;
+    for v in 0..20 {
+        let goal = fillings::within(goals, fillings::power(v));
+        if !fillings::is_empty(goal) {
+            kept = tried(all, costs, set, goal, kept);
+        }
+    }
+    kept
+}
+
+// One set of variables: passed over where one of them is not known, or where its literals cost more than the best so far.
+fn one_set(
+    all: &[u64],
+    costs: [u16; 40],
+    known: Literals,
+    goals: Literals,
+    from: u64,
+    best: Candidate,
+) -> Candidate {
+    if from & !(known.yes | known.no) != 0 {
+        return best;
+    }
+    let literals = fillings::within(known, from);
+    let set = Set {
+        from,
+        literals,
+        cost: cost_of(costs, literals),
+    };
+    if best.found && best.cost < set.cost {
+        return best;
+    }
+    over_goals(all, costs, set, goals, best)
+}
+
+// Where the sets of known variables end, as numbers. Without a goal there is none to go through.
+fn end_of_sets(known: Literals, goals: Literals) -> u64 {
+    if fillings::is_empty(goals) {
+        0
+    } else {
+        std::num::wrapping_add_u64(known.yes | known.no, 1)
+    }
+}
+
+// Every set of known literals, for every goal: the literals of the consequence that are not known.
+fn over_sets(all: &[u64], costs: [u16; 40], known: Literals, goals: Literals) -> Candidate {
+    let mut best = Candidate {
+        found: false,
+        cost: 0,
+        goal: 0,
+        from: 0,
+        tied: false,
+    };
+    let end = end_of_sets(known, goals);
+    for from in 0..end {
+        best = one_set(all, costs, known, goals, from, best);
+    }
+    best
+}
+
+// The step from a known set: the best candidate, with all that follows from its reasons and is not known. A step is due
+// wherever a goal is left, whether the reckoning finds a candidate or not.
+pub fn next(
+    all: &[u64],
+    costs: [u16; 40],
+    choices: u64,
+    known: Literals,
+    consequence: Literals,
+) -> Taken {
+    let goals = fillings::less(consequence, known);
+    let best = over_sets(all, costs, known, goals);
+    let reasons = fillings::within(known, best.from);
+    let follows = fillings::forced(all, reasons, choices);
+    let goal = fillings::within(goals, best.goal);
+    let new = fillings::less(follows, known);
+    Taken {
+        found: !fillings::is_empty(goals),
+        goal,
+        reasons,
+        new,
+        cost: best.cost,
+        tied: best.tied,
+    }
+}

@@ -1,0 +1,68 @@
+// What the books are like that are small enough to be reckoned over all fillings.
+use crate::made::Shape;
+use samples::random;
+
+fn least(a: u8, b: u8) -> u8 {
+    if a < b { a } else { b }
+}
+
+// Up to `n`, drawn from a state.
+fn up_to(seed: u64, n: u8) -> u8 {
+    random::byte_below(seed, std::num::wrapping_add_u8(n, 1))
+}
+
+// Up to fourteen rules, as often as not up to four.
+fn rules(seed: u64, variables: u8) -> u8 {
+    if variables == 0 {
+        return 0;
+    }
+    if random::byte(seed) < 128 {
+        up_to(random::next(seed), 4)
+    } else {
+        up_to(random::next(seed), 14)
+    }
+}
+
+// Up to so many variables and choices, rules of up to four literals at most, any number of facts.
+pub fn any(seed: u64, most_variables: u8, most_choices: u8, cost: u16) -> Shape {
+    let a = random::next(seed);
+    let b = random::next(a);
+    let c = random::next(b);
+    let d = random::next(c);
+    let variables = up_to(a, most_variables);
+    let choices = up_to(b, least(variables, most_choices));
+    Shape {
+        variables,
+        choices,
+        rules: rules(c, variables),
+        fewest: 1,
+        literals: std::num::wrapping_add_u8(up_to(d, 3), 1),
+        cost,
+        givens: choices,
+        every: std::num::wrapping_add_u8(up_to(random::next(d), 5), 1),
+        planted: false,
+        filling: 0,
+    }
+}
+
+// So many choices and variables or fewer, a model planted, the facts before the others: much follows in several steps.
+pub fn planted(seed: u64, most_variables: u8, most_choices: u8, cost: u16) -> Shape {
+    let a = random::next(seed);
+    let b = random::next(a);
+    let c = random::next(b);
+    let d = random::next(c);
+    let variables = std::num::wrapping_sub_u8(most_variables, up_to(a, 2));
+    let choices = least(variables, most_choices);
+    Shape {
+        variables,
+        choices,
+        rules: std::num::wrapping_add_u8(up_to(b, 9), 6),
+        fewest: std::num::wrapping_add_u8(up_to(c, 1), 2),
+        literals: 4,
+        cost,
+        givens: std::num::wrapping_add_u8(choices / 3, up_to(d, 3)),
+        every: 1,
+        planted: true,
+        filling: random::next(d),
+    }
+}

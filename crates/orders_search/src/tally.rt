@@ -1,0 +1,117 @@
+// What is counted, group by group.
+
+// The book and its costs, a model, the consequence.
+pub const READING: usize = 0;
+
+pub const MODEL: usize = 1;
+
+pub const CONSEQUENCE: usize = 2;
+
+// What is written here of the orders at the counter: the reckoned logs, the engine's steps and logs.
+pub const WORKED: usize = 3;
+
+pub const COUNTER_STEPS: usize = 4;
+
+pub const COUNTER_LOGS: usize = 5;
+
+// Steps on the way from the facts to the consequence, "nothing left" at its end included.
+pub const ON_THE_WAY: usize = 6;
+
+// Steps from the facts and any of the consequence.
+pub const FROM_ANY: usize = 7;
+
+// Known sets that are refused: without a fact, with a literal outside the consequence, with a variable both ways, with a
+// variable that is no choice.
+pub const FACT_MISSING: usize = 8;
+
+pub const TOO_MUCH: usize = 9;
+
+pub const BOTH_WAYS: usize = 10;
+
+pub const NO_CHOICE: usize = 11;
+
+// Steps of books without a model, and of books that are refused.
+pub const WITHOUT_MODEL: usize = 12;
+
+pub const REFUSED: usize = 13;
+
+// Logs, buffers that are too short for one, and logs of books without a model or refused.
+pub const WHOLE_LOG: usize = 14;
+
+pub const SHORT_BUFFER: usize = 15;
+
+pub const NO_LOG: usize = 16;
+
+pub const GROUPS: usize = NO_LOG + 1;
+
+// Logs of no step, of one, two, .. and of seven or more.
+pub const STEPS: usize = 0;
+
+pub const MORE_STEPS: usize = 7;
+
+// Steps on the way at which several candidates have the least cost.
+pub const TIED: usize = 8;
+
+// Books that are refused, that have no model, that have a consequence with more than the facts.
+pub const BAD_BOOKS: usize = 9;
+
+pub const NO_MODEL: usize = 10;
+
+pub const WITH_MORE: usize = 11;
+
+// Books with no variables, with no choices, with no rules.
+pub const NO_VARIABLES: usize = 12;
+
+pub const NO_CHOICES: usize = 13;
+
+pub const NO_RULES: usize = 14;
+
+// Books that are left out: more fillings obey their rules than there is room for.
+pub const LEFT_OUT: usize = 15;
+
+pub const KINDS: usize = LEFT_OUT + 1;
+
+// Of each group: how often the engine was asked, and how often its answer was not what is due. Of each kind of book, step
+// or log, as reckoned: how many there were.
+pub struct Tally {
+    pub tried: [u64; GROUPS],
+    pub differ: [u64; GROUPS],
+    pub seen: [u64; KINDS],
+}
+
+pub fn none() -> Tally {
+    Tally {
+        tried: [0; GROUPS],
+        differ: [0; GROUPS],
+        seen: [0; KINDS],
+    }
+}
+
+// One more where something is so.
+fn more(n: u64, so: bool) -> u64 {
+    if so {
+        std::num::wrapping_add_u64(n, 1)
+    } else {
+        n
+    }
+}
+
+// One more answer of a group.
+pub fn noted(mut t: Tally, group: usize, agrees: bool) -> Tally {
+    if group < GROUPS {
+        let tried = t.tried[group];
+        t.tried[group] = more(tried, true);
+        let differ = t.differ[group];
+        t.differ[group] = more(differ, !agrees);
+    }
+    t
+}
+
+// One more of a kind, where it is of that kind.
+pub fn seen(mut t: Tally, kind: usize, so: bool) -> Tally {
+    if kind < KINDS {
+        let n = t.seen[kind];
+        t.seen[kind] = more(n, so);
+    }
+    t
+}
