@@ -177,7 +177,7 @@ module _ {A : Type 0} (recordAt : ℕ → List ℕ → RecordRead A) (s : List �
   many zero i place = value [] place
   many (suc left) i place = begin place (recordAt i (drop place s)) (λ a next. withItem a (many left (suc i) next))
 
--- The facts from a place on, and EN. Each FA takes three bytes, so as many turns as there are bytes are enough (`facts-enough`, proofs/FactLaws).
+-- The facts from a place on, and EN. Each FA takes three bytes, so as many turns as there are bytes are enough (`facts-enough`, book/proofs/FactLaws).
 unfoldable pub factsFrom : List ℕ → ℕ → ℕ → ℕ → ℕ → Read (List Literal)
 factsFrom s u zero last place = refused 1 place
 factsFrom s u (suc turns) last place =
