@@ -1,5 +1,6 @@
 // Holds the engine's search against an independent reckoning over all fillings, over books that are built here as bytes.
-// One line for a group: how many were tried, at how many the two differ, and in parentheses how they were reckoned.
+// A line for each thing that is compared: how many were tried, and at how many the two differ. Other lines count what
+// was met on the way.
 mod asked;
 mod asked_log;
 mod compare;
