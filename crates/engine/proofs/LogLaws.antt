@@ -5,10 +5,10 @@ use mathlib.Core.Bool.{Bool, true, false, not, cond}
 use mathlib.Core.List.{List}
 use Prim.Native.Nat.{ℕ, _≤_, _<_, _^_}
 use native.Mathlib.Omega.{arith}
-use lib.Dec.{ltb}
+use lib.Dec.{ltb, leb}
 use lib.ListN.{length, drop}
 use lib.Seq.{take-at}
-use borrow.Author.Tests.{lt-ltb, le-ltb, ltb-true}
+use borrow.Author.Tests.{lt-ltb, le-ltb, ltb-true, leb-true}
 use Rattle.literals.specs.declared.LiteralSet.{LiteralSet}
 use Rattle.records.specs.Limits.{maxLog}
 use Rattle.records.specs.Format.{Read, value, refused, OrderBook, readBook}
@@ -174,6 +174,9 @@ module _ {s before : List ℕ} where
   unfolding logOutcome
   log-refused {n = n} {p} e f = let no-book = book-refused (readBook s) e f in log-call (rw no-book refl) (rw no-book (logged-refused n p before))
 
-  pub log-short : {r : Reading} → Taken s r → length before < maxLog → LogCall s before before (LogAnswer.Refused 8 0)
+  -- from what the code has compared the buffer's length with: whether that is too short is asked of the number itself
+  pub log-short : {r : Reading} {least : ℕ} → Taken s r → length before < least → leb least maxLog ≡ true → LogCall s before before (LogAnswer.Refused 8 0)
   unfolding logOutcome
-  log-short t l = log-call (rw (t .read .said) (λ f x y k. omega (arith, l))) (rw (t .read .said, lt-ltb _ _ l) (logged-refused 8 0 before))
+  log-short {least = least} t h k =
+      let l : length before < maxLog = omega (arith, h, leb-true least maxLog k) in
+      log-call (rw (t .read .said) (λ f x y m. omega (arith, l))) (rw (t .read .said, lt-ltb _ _ l) (logged-refused 8 0 before))

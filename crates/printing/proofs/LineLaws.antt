@@ -34,10 +34,9 @@ pub pair-length : (first : List ℕ) (n : ℕ) (second : List ℕ) (m : ℕ)
     → length (first ++ decimal n ++ second ++ decimal m ++ lineEnd) ≡ length first + length (decimal n) + length second + length (decimal m) + 1
 pair-length first n second m = simp length-append
 
-pub refusal-length : (number place : ℕ) → number < 256 → place < 2 ^ 64 → length (refusalText number place) ≤ 36
+pub refusal-length : (n m : ℕ) → length (decimal n) + length (decimal m) ≤ 23 → length (refusalText n m) ≤ 36
 unfolding refusalText
-refusal-length number place h k =
-    omega (arith, pair-length refusedWord number atWord place, decimal-short 2 number (omega arith), decimal-short 19 place (omega arith))
+refusal-length n m h = omega (arith, h, pair-length refusedWord n atWord m)
 
 pub done-length : (steps total : ℕ) → steps < 256 → total < 2 ^ 32 → length (doneText steps total) ≤ 26
 unfolding doneText

@@ -17,7 +17,11 @@ read-facts-requires c κs =
 pub read-from-rules-spec : {M : Type 1} → statement M
 read-from-rules-spec =
     tie.close (tie.spec (λ c κs. search needs) (λ c. search needs) (λ c κs. search needs) (λ c. search needs) read-facts-requires
-    (λ c. search needs) (λ c κs. search needs) (λ c. search needs) (λ c κs. search needs) (λ c. search refused-at-end) (λ c. search refused-at-rule)
+    (λ c. search needs) (λ c κs. search needs) (λ c. search needs) (λ c κs. search needs)
+    (λ c. refused-at-end _ _ _ (c .before .before .before .before .before .before .before .before .before .read-rules .ensures)
+    (c .before .before .before .before .before .before .before .after2 .given .1)
+    (c .before .before .before .before .before .read-facts .ensures) (c .before .before .before .set .given .1)
+    (omega (arith, c .before .if1 .taken)) (c .refuse3 .ensures)) (λ c. search refused-at-rule)
     (λ c. search refused-at-fact)
     (λ c. accepted _ _ _ (c .before .before .before .before .before .before .before .before .before .before .read-rules .ensures)
     (c .before .before .before .before .before .before .before .before .after2 .given .1)

@@ -14,7 +14,7 @@ use Rattle.literals.proofs.of_byte.Tie as tie
 
 -- in the second arm the difference is the negative number that the byte stands for
 minus : (c : tie.Else1) → toZ w16 (c .before .args .b) -ℤ pos 256 ≡ negsuc (255 - c .before .args .b)
-minus c = less-256 _ (c .if1 .left) (c .before .fits .b .fits)
+minus c = less-256 _ (omega (arith, c .if1 .left)) (c .before .fits .b .fits)
 
 -- which 16 bits have room for
 wide : (c : tie.Else1) → toZ w16 (ofZ w16 (negsuc (255 - c .before .args .b))) ≡ negsuc (255 - c .before .args .b)

@@ -1,22 +1,35 @@
 -- The line of a refusal, at the front. Assumes nothing.
-use Prim.Native.Nat.{_≤_}
+use Prim.Native.Nat.{_+_, _≤_}
 use native.Mathlib.Nat.{zero-add, le-trans}
+use native.Mathlib.Omega.{arith}
 use borrow.Author.Needs.{needs}
 use lib.ListN.{length}
 use denote.Ref.{now}
 use Rattle.log_form.proofs.StoreLaws.{put-length}
-use Rattle.printing.specs.Text.{refusalText}
+use Rattle.printing.specs.Text.{decimal, refusalText}
+use Rattle.printing.proofs.DecimalLaws.{decimal-short}
 use Rattle.printing.proofs.LeftLaws.{put-front}
 use Rattle.printing.proofs.LineLaws.{refusal-length}
 use Rattle.printing.proofs.put_refusal.Statement.{statement}
 use Rattle.printing.proofs.put_refusal.Tie as tie
 
+-- the digits of the two numbers, whichever comes first
+digits : (c : tie.Start) → length (decimal (c .args .number)) + length (decimal (c .args .place)) ≤ 23
+digits c =
+    omega (
+      arith,
+      decimal-short 2 (c .args .number) (omega (arith, c .fits .number .fits)),
+      decimal-short 19 (c .args .place) (omega (arith, c .fits .place .fits)),
+    )
+
 short : (c : tie.Start) → length (refusalText (c .args .number) (c .args .place)) ≤ length (now (c .args .out))
-short c = le-trans (refusal-length _ _ (c .fits .number .fits) (c .fits .place .fits)) (c .pre)
+short c = le-trans (refusal-length _ _ (digits c)) (c .pre)
 
 put-pair-requires : tie.Need-put-pair-requires
 unfolding refusalText
-put-pair-requires c κs = rw zero-add (short (c .before .before .before .before))
+put-pair-requires c κs =
+    let start = c .before .before .before .before in
+    rw zero-add (le-trans (refusal-length _ _ (omega (arith, digits start))) (start .pre))
 
 returns : tie.Need-returns
 unfolding refusalText
