@@ -2,3 +2,4 @@
 pub mod Forcing
 pub mod Masks
 pub mod Problems
+pub mod SameFillings

@@ -1,4 +1,5 @@
 pub mod Meaning
 pub mod Demand2
+pub mod SameFillings
 pub mod Contracts
 pub mod Laws

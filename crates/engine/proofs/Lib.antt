@@ -3,3 +3,4 @@ mod ProblemLaws
 mod AnswerLaws
 mod StepLaws
 pub mod LogLaws
+pub mod SameScreens

@@ -16,7 +16,7 @@ use Rattle.engine.specs.declared.ModelAnswer.{ModelAnswer}
 use Rattle.engine.specs.declared.ModelAnswer.the-variants as ModelAnswer
 
 -- a problem that has no model, for every filling, computes so
-none-has : (p : Problem) → NoFilling p → hasModel p ≡ false
+pub none-has : (p : Problem) → NoFilling p → hasModel p ≡ false
 none-has p n = go (hasModel p) refl
   where
     go : (h : Bool) → hasModel p ≡ h → h ≡ false

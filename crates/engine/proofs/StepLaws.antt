@@ -153,7 +153,7 @@ module _ {b : OrderBook} (w : WellFormed b) where
 
 module _ {p : Problem} (w : ProperProblem p) (some : hasModel p ≡ true) where
   -- a known set between the given facts and the consequence can be asked about
-  sound-between : (known : LiteralSet) → between (given p) known (consequenceOf p) ≡ true → Sound (questionOf p known)
+  pub sound-between : (known : LiteralSet) → between (given p) known (consequenceOf p) ≡ true → Sound (questionOf p known)
   unfolding theoryOf
   sound-between known b =
       facts.between-sound (choices-below w) (forced w) (consistent w some) (p .costs) (lies _ _ _ b)

@@ -1,3 +1,4 @@
 pub mod Calls
 pub mod Contracts
 pub mod Orders
+pub mod SameScreens

@@ -5,3 +5,4 @@ pub mod Costs
 pub mod Growth
 pub mod OneStep
 pub mod Explains
+pub mod SameFillings

@@ -9,3 +9,5 @@ pub mod Goals
 pub mod AllGoals
 pub mod TheStep
 pub mod Steps
+pub mod Unique
+pub mod SameFillings

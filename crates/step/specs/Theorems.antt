@@ -5,11 +5,14 @@ use mathlib.Core.List.{List}
 use Prim.Native.Nat.{ℕ, _^_, _<_}
 use Rattle.literals.specs.declared.LiteralSet.{LiteralSet}
 use Rattle.consequence.specs.Meaning.{Theory, contradicts, NoModelOf}
+use Rattle.consequence.specs.SameFillings.{SameChoices}
 use Rattle.step.specs.Meaning.{Question, asking, Step, nothingLeft, step, stepOf}
 use Rattle.step.specs.IsStep.{ForcedBy, Between, Sound, oppositeOn, oppositeOff, Goal, IsStep}
 use Rattle.step.specs.Laws.Given as given
 use Rattle.step.specs.Laws.Known as known-laws
+use Rattle.step.specs.Laws.SameFillings as fillings
 use Rattle.step.specs.Laws.TheStep as law
+use Rattle.step.specs.Laws.Unique as unique
 
 module _ (q : Question) (z : Sound q) where
   -- The step that is answered is the step.
@@ -22,6 +25,15 @@ module _ (q : Question) (z : Sound q) where
 
   pub known-left : q .known-on ≡ q .con-on → q .known-off ≡ q .con-off → stepOf q ≡ nothingLeft
   known-left x y = law.known-left q z x y
+
+  -- There is one step: what `IsStep` says leaves no freedom.
+  pub step-unique : {a b : Step} → IsStep q a → IsStep q b → a ≡ b
+  step-unique x y = unique.step-unique q z x y
+
+-- The step depends on the rules only by the fillings of the choices that they leave (E1).
+pub same-step : {t u : Theory} → SameChoices t u → (table : List (List ℕ)) (c known : LiteralSet) → Sound (asking t table c known)
+    → Sound (asking u table c known) → stepOf (asking t table c known) ≡ stepOf (asking u table c known)
+same-step s table c known x y = fillings.same-step s table c known x y
 
 -- ---- a next step is always there (E9)
 

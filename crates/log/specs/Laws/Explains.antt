@@ -94,7 +94,7 @@ module _ {p : Problem} (w : ProperProblem p) (some : hasModel p ≡ true) where
   facts-same = same-masks (p .facts) (no-zero (p .facts) (w .facts-proper))
 
   -- the forced choices not given
-  first-known : Sound (questionOf p (given p))
+  pub first-known : Sound (questionOf p (given p))
   unfolding theoryOf
   first-known =
       facts.between-sound (choices-below w) (forced w) consistent (p .costs) (facts.given-between (choices-below w) (forced w) (w .yes-facts) (w .no-facts))

@@ -14,7 +14,7 @@ use Rattle.sets.specs.Laws.Bits.{bit-le, bit-union, bit-inter}
 use Rattle.sets.specs.Laws.Subset.{has-true, has-false, within-refl, within-insert}
 use Rattle.items.specs.Weights.{sumBelow, total}
 use Rattle.items.specs.Contracts.{weightIn}
-use Rattle.items.specs.Laws.Sums.{sum-same, sum-add, sum-bound, sum-part, digits-sum, total-le, total-insert}
+use Rattle.items.specs.Laws.Sums.{sum-same, sum-add, sum-bound, sum-part, digits-sum, total-le, total-insert, total-width}
 use Rattle.literals.specs.Literal.{literalOf}
 use Rattle.records.specs.Limits.{maxChoices}
 use Rattle.problem.specs.Problem.{costOf, literalCost}
@@ -43,6 +43,13 @@ pub cost-parts : (table : List (List ℕ)) (n on off : ℕ)
     → setCost table n on off ≡ total (λ v. costOf table v 0) n on + total (λ v. costOf table v 1) n off
 unfolding setCost total
 cost-parts table n on off = sum-add n (λ v. bit on v * costOf table v 0) (λ v. bit off v * costOf table v 1)
+
+-- how many variables there are beyond those of a set does not matter to what it costs
+pub cost-width : (table : List (List ℕ)) (n m on off : ℕ) → on < 2 ^ n → on < 2 ^ m → off < 2 ^ n → off < 2 ^ m
+    → setCost table n on off ≡ setCost table m on off
+cost-width table n m on off a b c d =
+    cost-parts table n on off ∙ ap₂ _+_ (total-width (λ v. costOf table v 0) n m on a b) (total-width (λ v. costOf table v 1) n m off c d)
+    ∙ sym (cost-parts table m on off)
 
 -- an item more adds at most its weight
 total-most : (w : ℕ → ℕ) (n s v : ℕ) → v < n → total w n (insert s v) ≤ total w n s + w v

@@ -92,11 +92,11 @@ module _ (q : Question) (z : Forcing q) where
   against-off s v b g = ap (λ (x : Bool). cond x (insert (reasonsOff q s) v) (reasonsOff q s)) (goal-is v b g .1)
 
   -- the variables of a set of known literals stand for it
-  union-on : (a b : ℕ) → Within a (q .known-on) → Within b (q .known-off) → reasonsOn q (union a b) ≡ a
+  pub union-on : (a b : ℕ) → Within a (q .known-on) → Within b (q .known-off) → reasonsOn q (union a b) ≡ a
   unfolding reasonsOn
   union-on a b x y = part-of (union a b) a b _ _ (bit-union a b) x y known-apart
 
-  union-off : (a b : ℕ) → Within a (q .known-on) → Within b (q .known-off) → reasonsOff q (union a b) ≡ b
+  pub union-off : (a b : ℕ) → Within a (q .known-on) → Within b (q .known-off) → reasonsOff q (union a b) ≡ b
   unfolding reasonsOff
   union-off a b x y = part-of (union a b) b a _ _ (λ v. omega (arith, bit-union a b v)) y x (apart-symm _ _ known-apart)
 

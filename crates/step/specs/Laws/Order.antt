@@ -5,6 +5,7 @@ use mathlib.Core.Logic.{_⊎_, inl, inr}
 use mathlib.Core.Bool.{Bool, true, false, _&&_, _||_, true≢false, false≢true}
 use mathlib.Core.List.{List, _∷_, List·Memᴰ, List·Memᴰ·head, List·Memᴰ·tail, List·Memᴰ·not-nil, List·Memᴰ·cases-cons, []}
 use Prim.Native.Nat.{ℕ, _/_, _%_, _≤_, _<_}
+use native.Mathlib.Nat.{le-antisymm}
 use native.Mathlib.Omega.{arith}
 use lib.Dec.{ltb, eqb}
 use borrow.Author.Tests.{ltb-true, ltb-false, eqb-true, eqb-false}
@@ -60,6 +61,20 @@ weaken : {c d : Candidate} → Before c d → Upto c d
 weaken (inl h) = inl h
 weaken (inr (p, inl h)) = inr (p, inl h)
 weaken (inr (p, inr (q, h))) = inr (p, inr (q, omega arith))
+
+-- of two, neither comes before the other only where they are the same
+lex-both : {a b : ℕ} {X Y : Type 0} → Lex a b X → Lex b a Y → (a ≡ b) × X × Y
+lex-both (inl h) (inl k) = absurd (omega arith)
+lex-both (inl h) (inr k) = absurd (omega (arith, k .0))
+lex-both (inr h) (inl k) = absurd (omega (arith, h .0))
+lex-both (inr h) (inr k) = (h .0, h .1, k .1)
+
+pub upto-both : {c d : Candidate} → Upto c d → Upto d c → c ≡ d
+upto-both h k =
+    let cost = lex-both h k in
+    let goal = lex-both (cost .1) (cost .2) in
+    let reasons = le-antisymm (goal .1) (goal .2) in
+    λ i. record { cost = cost .0 i; goal = goal .0 i; reasons = reasons i }
 
 pub upto-cost : {c d : Candidate} → Upto c d → c .cost ≤ d .cost
 upto-cost (inl h) = omega arith

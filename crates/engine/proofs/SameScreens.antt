@@ -1,0 +1,188 @@
+-- Books with the same screens are answered alike (E1): from the contracts of the calls, and the laws of two problems with the same fillings of the choices.
+-- Assumes nothing.
+use mathlib.Core.Path.{_≡_, refl, sym, ap, ap₂, _∙_}
+use mathlib.Core.Logic.{_⊎_, inl, inr}
+use mathlib.Core.Bool.{Bool, true, false, cond}
+use mathlib.Core.List.{List}
+use Prim.Native.Nat.{ℕ, _≤_, _<_}
+use lib.Dec.{ltb}
+use lib.ListN.{length}
+use borrow.Author.Tests.{le-ltb, lt-ltb}
+use Rattle.sets.specs.Sets.{full}
+use Rattle.literals.specs.declared.LiteralSet.{LiteralSet}
+use Rattle.records.specs.Limits.{maxLog}
+use Rattle.records.specs.Format.{value, OrderBook, readBook}
+use Rattle.book.specs.Answer.{table}
+use Rattle.book.proofs.WellFormed.{well-formed}
+use Rattle.problem.specs.Problem.{Problem, problemOf, given}
+use Rattle.problem.specs.Proper.{ProperProblem}
+use Rattle.problem.proofs.BookLaws.{proper-book}
+use Rattle.consequence.specs.Meaning.{hasModel, consequenceOf}
+use Rattle.consequence.specs.SameFillings.{SameOverChoices}
+use Rattle.consequence.specs.Laws.Problems.{no-filling}
+use Rattle.consequence.specs.Laws.SameFillings.{given-same, same-has-model, same-consequence}
+use Rattle.step.specs.Meaning.{questionOf, Step, stepOf}
+use Rattle.log_form.specs.Format.{Log, logBytes}
+use Rattle.log.specs.Meaning.{runFor, logOf}
+use Rattle.log.specs.Laws.SameFillings.{same-next, same-run}
+use Rattle.engine.specs.Calls.{withModel, NoModelIn, ModelSays, ModelCall, consequenceAnswer, ConsequenceCall, between, stepSays, stepFor, stepAnswer}
+use Rattle.engine.specs.Calls.{StepCall, LogOutcome, logged, refusedWith, logOutcome, logAnswer, bufferAfter, LoggedAs, LogCall}
+use Rattle.engine.specs.SameScreens.{SameScreens, Retyped, BothNine, EqualLogs, SameLogs, GivesModel, SameModels, SameAnswers}
+use Rattle.engine.specs.declared.ModelAnswer.{ModelAnswer}
+use Rattle.engine.specs.declared.ModelAnswer.the-variants as ModelAnswer
+use Rattle.engine.specs.declared.ConsequenceAnswer.{ConsequenceAnswer}
+use Rattle.engine.specs.declared.ConsequenceAnswer.the-variants as ConsequenceAnswer
+use Rattle.engine.specs.declared.StepAnswer.{StepAnswer}
+use Rattle.engine.specs.declared.StepAnswer.the-variants as StepAnswer
+use Rattle.engine.specs.declared.LogAnswer.{LogAnswer}
+use Rattle.engine.specs.declared.LogAnswer.the-variants as LogAnswer
+use Rattle.engine.proofs.NineLaws.{none-has}
+use Rattle.engine.proofs.StepLaws.{sound-between}
+
+-- the problems of two such books
+problems-same : {b c : OrderBook} → SameScreens b c → SameOverChoices (problemOf b) (problemOf c)
+unfolding problemOf
+problems-same x =
+    record { same-choices = ap full (x .same-choices); same-costs = ap table (x .same-costs); same-facts = x .same-facts; same-fillings = x .same-fillings }
+
+-- ---- two problems
+
+module _ {p q : Problem} (w : ProperProblem p) (z : ProperProblem q) (x : SameOverChoices p q) where
+  has-same : hasModel p ≡ hasModel q
+  has-same = same-has-model w z x
+
+  -- two answers, each with 9 where there is no model
+  after-nine : {A : Type 0} (nine f g : A) → (hasModel p ≡ true → f ≡ g) → cond (hasModel p) f nine ≡ cond (hasModel q) g nine
+  after-nine nine f g h = go (hasModel p) h ∙ ap (λ (b : Bool). cond b g nine) has-same
+    where
+      go : (b : Bool) → (b ≡ true → f ≡ g) → cond b f nine ≡ cond b g nine
+      go true h = h refl
+      go false h = refl
+
+  -- the step from a known set, or 10
+  step-same : (known : LiteralSet) → hasModel p ≡ true → stepFor known p ≡ stepFor known q
+  unfolding stepFor
+  step-same known some =
+      go (between (given p) known (consequenceOf p)) refl
+      ∙ ap (λ (b : Bool). cond b (stepSays (stepOf (questionOf q known))) (StepAnswer.Refused 10 0)) lies-same
+    where
+      lies-same : between (given p) known (consequenceOf p) ≡ between (given q) known (consequenceOf q)
+      lies-same = ap₂ (λ (g : LiteralSet) (c : LiteralSet). between g known c) (given-same w z x) (same-consequence w z x)
+
+      go : (b : Bool) → between (given p) known (consequenceOf p) ≡ b
+          → cond b (stepSays (stepOf (questionOf p known))) (StepAnswer.Refused 10 0) ≡ cond b (stepSays (stepOf (questionOf q known))) (StepAnswer.Refused 10 0)
+      go true e = ap stepSays (same-next w z x known (sound-between w some known e) (sound-between z (sym has-same ∙ some) known (sym lies-same ∙ e)))
+      go false e = refl
+
+-- ---- one log
+
+-- a book with a buffer that is long enough: the log, or 9
+log-or-nine : Problem → LogOutcome
+log-or-nine p = cond (hasModel p) (logged (logOf (runFor p))) (refusedWith 9 0)
+
+long-enough : (s : List ℕ) {b : OrderBook} {end : ℕ} → readBook s ≡ value b end → (room : ℕ) → maxLog ≤ room
+    → logOutcome room (readBook s) ≡ log-or-nine (problemOf b)
+unfolding logOutcome withModel log-or-nine
+long-enough s e room l = rw (e, le-ltb room maxLog l, logOutcome) refl
+
+-- and with one that is short: 8
+gives-eight : {s : List ℕ} {b : OrderBook} {end : ℕ} → readBook s ≡ value b end → {before after : List ℕ} {r : LogAnswer} → LogCall s before after r
+    → length before < maxLog → (r ≡ LogAnswer.Refused 8 0) × (after ≡ before)
+unfolding logOutcome logAnswer bufferAfter
+gives-eight e {before} c l = let k = rw (e, lt-ltb (length before) maxLog l, logOutcome) at (c .said) in (k .answered, k .buffer)
+
+-- one log into two buffers
+module _ {before after other-before other-after : List ℕ} {r o : LogAnswer} where
+  one-log : (p : Problem) → LoggedAs (log-or-nine p) before after r → LoggedAs (log-or-nine p) other-before other-after o
+      → EqualLogs before after r other-before other-after o ⊎ BothNine LogAnswer.Refused r o
+  unfolding log-or-nine logAnswer bufferAfter
+  one-log p = go (hasModel p) (logOf (runFor p))
+    where
+      go : (h : Bool) (l : Log) → LoggedAs (cond h (logged l) (refusedWith 9 0)) before after r
+          → LoggedAs (cond h (logged l) (refusedWith 9 0)) other-before other-after o
+          → EqualLogs before after r other-before other-after o ⊎ BothNine LogAnswer.Refused r o
+      go true l c d =
+          inl (record {
+            bytes = logBytes l;
+            steps = l .steps;
+            total = l .total;
+            written = c .answered;
+            other-written = d .answered;
+            buffer = c .buffer;
+            other-buffer = d .buffer;
+          })
+      go false l c d = inr (c .answered, d .answered)
+
+-- ---- two books
+
+module _ {s t : List ℕ} (x : Retyped s t) where
+  w : ProperProblem (problemOf (x .book))
+  w = proper-book (well-formed s (x .accepted))
+
+  z : ProperProblem (problemOf (x .other))
+  z = proper-book (well-formed t (x .other-accepted))
+
+  alike : SameOverChoices (problemOf (x .book)) (problemOf (x .other))
+  alike = problems-same (x .same)
+
+  -- the answers by `withModel`
+  answers-same : {A : Type 0} (answer : Problem → A) (refuse : ℕ → ℕ → A)
+      → (hasModel (problemOf (x .book)) ≡ true → answer (problemOf (x .book)) ≡ answer (problemOf (x .other)))
+      → withModel answer refuse (readBook s) ≡ withModel answer refuse (readBook t)
+  unfolding withModel
+  answers-same answer refuse h = rw (x .accepted, x .other-accepted, withModel) (after-nine w z alike _ _ _ h)
+
+  consequence-same : {r o : ConsequenceAnswer} → ConsequenceCall s r → ConsequenceCall t o → r ≡ o
+  unfolding consequenceAnswer
+  consequence-same c d =
+      c .said ∙ answers-same (λ p. ConsequenceAnswer.Forced (consequenceOf p)) ConsequenceAnswer.Refused (λ some. ap ConsequenceAnswer.Forced (same-consequence w z alike)) ∙ sym (d .said)
+
+  next-same : {on off : ℕ} {r o : StepAnswer} → StepCall s on off r → StepCall t on off o → r ≡ o
+  unfolding stepAnswer
+  next-same {on} {off} c d =
+      let known : LiteralSet = record { yes = on; no = off } in
+      c .said ∙ answers-same (stepFor known) StepAnswer.Refused (λ some. step-same w z alike known some) ∙ sym (d .said)
+
+  -- ---- the log
+
+  -- with rooms that are long enough both calls come to the same
+  outcome-same : log-or-nine (problemOf (x .book)) ≡ log-or-nine (problemOf (x .other))
+  unfolding log-or-nine
+  outcome-same = after-nine w z alike _ _ _ (λ some. ap (λ (ss : List Step). logged (logOf ss)) (same-run w z alike some))
+
+  pub outcomes-same : (room other : ℕ) → maxLog ≤ room → maxLog ≤ other → logOutcome room (readBook s) ≡ logOutcome other (readBook t)
+  outcomes-same room other l k = long-enough s (x .accepted) room l ∙ outcome-same ∙ sym (long-enough t (x .other-accepted) other k)
+
+  logs-same : SameLogs s t
+  logs-same = record {
+    equal = λ c d l k.
+        let here = long-enough s (x .accepted) _ l in
+        one-log _ (rw here at (c .said)) (rw (sym (outcomes-same _ _ l k) ∙ here) at (d .said));
+    short = λ c l. gives-eight (x .accepted) c l;
+    other-short = λ c l. gives-eight (x .other-accepted) c l;
+    nine = λ c d l k m n. (c .nine .none-nine l m, d .nine .none-nine k n);
+  }
+
+  -- ---- one model
+
+  both-models : {r o : ModelAnswer} → ModelSays (value (x .book) (x .end)) r → ModelSays (value (x .other) (x .other-end)) o
+      → (GivesModel r × GivesModel o) ⊎ BothNine ModelAnswer.Refused r o
+  both-models {r} {o} c d = go (hasModel (problemOf (x .book))) refl
+    where
+      go : (h : Bool) → hasModel (problemOf (x .book)) ≡ h → (GivesModel r × GivesModel o) ⊎ BothNine ModelAnswer.Refused r o
+      go true e =
+          let m = c .0 e in let n = d .0 (sym (has-same w z alike) ∙ e) in
+          inl ((m .filling, m .answered), (n .filling, n .answered))
+      go false e = inr (c .1 e, d .1 (sym (has-same w z alike) ∙ e))
+
+  models-same : SameModels s t
+  models-same = record {
+    none-there = λ n. rw (x .other-accepted) (no-filling _ (sym (has-same w z alike) ∙ none-has _ (rw (x .accepted) at n)));
+    none-back = λ n. rw (x .accepted) (no-filling _ (has-same w z alike ∙ none-has _ (rw (x .other-accepted) at n)));
+    both = λ c d. both-models (rw (x .accepted) at (c .said)) (rw (x .other-accepted) at (d .said));
+  }
+
+  -- ---- all calls
+
+  pub same-screens : SameAnswers s t
+  same-screens = record { models = models-same; consequence = consequence-same; next-step = next-same; logs = logs-same }

@@ -1,0 +1,84 @@
+-- Rules typed in another order (document 02, E1): which books have the same screens, and what is claimed of the calls, for any bytes that read as two such
+-- books and by the contracts of the calls alone. `same-screens` (proofs/SameScreens) shows it.
+use mathlib.Core.Path.{_≡_}
+use mathlib.Core.Logic.{_⊎_}
+use mathlib.Core.List.{List, _++_}
+use Prim.Native.Nat.{ℕ, _≤_, _<_}
+use lib.ListN.{length, drop}
+use Rattle.records.specs.Limits.{maxLog}
+use Rattle.records.specs.Format.{value, OrderBook, readBook}
+use Rattle.problem.specs.Problem.{problemOf}
+use Rattle.consequence.specs.Meaning.{theoryOf}
+use Rattle.consequence.specs.SameFillings.{SameFillings}
+use Rattle.engine.specs.Calls.{NoModelIn, ModelCall, ConsequenceCall, StepCall, LogCall}
+use Rattle.engine.specs.declared.ModelAnswer.{ModelAnswer}
+use Rattle.engine.specs.declared.ModelAnswer.the-variants as ModelAnswer
+use Rattle.engine.specs.declared.ConsequenceAnswer.{ConsequenceAnswer}
+use Rattle.engine.specs.declared.StepAnswer.{StepAnswer}
+use Rattle.engine.specs.declared.LogAnswer.{LogAnswer}
+use Rattle.engine.specs.declared.LogAnswer.the-variants as LogAnswer
+
+-- ---- which books
+
+-- Document 02: "two accepted books with the same U, costs and facts, where the fillings that obey the rules, facts left aside, give the same set when
+-- restricted to the choices". Nothing is said of V, R, the rules and the helpers: they may all differ. Given facts rise in an accepted book, so that the
+-- same facts are the same list; `Retyped` says accepted.
+pub record SameScreens (b c : OrderBook) : Type 0 where
+  pub same-choices : b .header .choices ≡ c .header .choices
+  pub same-costs : b .costs ≡ c .costs
+  pub same-facts : b .facts ≡ c .facts
+  pub same-fillings : SameFillings (theoryOf (problemOf b)) (theoryOf (problemOf c))
+
+-- The bytes s and t read as two such books.
+pub record Retyped (s t : List ℕ) : Type 0 where
+  pub book : OrderBook
+  pub end : ℕ
+  pub accepted : readBook s ≡ value book end
+  pub other : OrderBook
+  pub other-end : ℕ
+  pub other-accepted : readBook t ≡ value other other-end
+  pub same : SameScreens book other
+
+-- ---- what is claimed
+
+-- Both calls refuse with 9 at 0.
+abbrev pub BothNine : {A : Type 0} → (ℕ → ℕ → A) → A → A → Type 0
+BothNine refuse r o = (r ≡ refuse 9 0) × (o ≡ refuse 9 0)
+
+-- Both calls write, and the logs are equal: length, steps, total and every byte. After its log each buffer is as it was.
+pub record EqualLogs (before after : List ℕ) (r : LogAnswer) (other-before other-after : List ℕ) (o : LogAnswer) : Type 0 where
+  pub bytes : List ℕ
+  pub steps : ℕ
+  pub total : ℕ
+  pub written : r ≡ LogAnswer.Written (length bytes) steps total
+  pub other-written : o ≡ LogAnswer.Written (length bytes) steps total
+  pub buffer : after ≡ bytes ++ drop (length bytes) before
+  pub other-buffer : other-after ≡ bytes ++ drop (length bytes) other-before
+
+-- With buffers long enough the logs are equal, or both calls refuse with 9. A call with a short buffer gives 8, whatever the other does.
+pub record SameLogs (s t : List ℕ) : Type 0 where
+  pub equal : {before after other-before other-after : List ℕ} {r o : LogAnswer} → LogCall s before after r → LogCall t other-before other-after o
+      → maxLog ≤ length before → maxLog ≤ length other-before → EqualLogs before after r other-before other-after o ⊎ BothNine LogAnswer.Refused r o
+  pub short : {before after : List ℕ} {r : LogAnswer} → LogCall s before after r → length before < maxLog → (r ≡ LogAnswer.Refused 8 0) × (after ≡ before)
+  pub other-short : {before after : List ℕ} {o : LogAnswer} → LogCall t before after o → length before < maxLog
+      → (o ≡ LogAnswer.Refused 8 0) × (after ≡ before)
+  -- where neither has a model, both give 9 if their buffers are long enough
+  pub nine : {before after other-before other-after : List ℕ} {r o : LogAnswer} → LogCall s before after r → LogCall t other-before other-after o
+      → maxLog ≤ length before → maxLog ≤ length other-before → NoModelIn (readBook s) → NoModelIn (readBook t) → BothNine LogAnswer.Refused r o
+
+-- A model is answered.
+abbrev pub GivesModel : ModelAnswer → Type 0
+GivesModel r = (f : ℕ) × (r ≡ ModelAnswer.Model f)
+
+-- One has a model exactly where the other has. Which model is answered is free: both calls answer one, or both refuse with 9.
+pub record SameModels (s t : List ℕ) : Type 0 where
+  pub none-there : NoModelIn (readBook s) → NoModelIn (readBook t)
+  pub none-back : NoModelIn (readBook t) → NoModelIn (readBook s)
+  pub both : {r o : ModelAnswer} → ModelCall s r → ModelCall t o → (GivesModel r × GivesModel o) ⊎ BothNine ModelAnswer.Refused r o
+
+-- The same screens: the same is filled in, the next step from the same known set is the same, refusals included, and the logs have equal bytes.
+pub record SameAnswers (s t : List ℕ) : Type 0 where
+  pub models : SameModels s t
+  pub consequence : {r o : ConsequenceAnswer} → ConsequenceCall s r → ConsequenceCall t o → r ≡ o
+  pub next-step : {on off : ℕ} {r o : StepAnswer} → StepCall s on off r → StepCall t on off o → r ≡ o
+  pub logs : SameLogs s t
