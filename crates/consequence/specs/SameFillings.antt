@@ -1,8 +1,10 @@
 -- The fillings of the choices alone (document 02, E1): of two sets of rules, over variables and helpers of their own, all that the choices can show.
 use mathlib.Core.Path.{_≡_}
-use mathlib.Core.Bool.{true}
+use mathlib.Core.Bool.{Bool, true, not, _&&_, _||_}
 use Prim.Native.Nat.{ℕ, _^_, _<_}
+use lib.Dec.{eqb}
 use Rattle.sets.specs.Sets.{inter}
+use Rattle.sat.specs.Meaning.{everyFilling, someFilling}
 use Rattle.problem.specs.Problem.{Problem}
 use Rattle.consequence.specs.Meaning.{Theory, theoryOf, contradicts, yesForced, noForced}
 
@@ -17,6 +19,15 @@ pub record Restriction (t : Theory) (g : ℕ) : Type 0 where
 pub record SameFillings (t u : Theory) : Type 0 where
   pub there : (g : ℕ) → Restriction t g → Restriction u g
   pub back : (g : ℕ) → Restriction u g → Restriction t g
+
+-- The same, computed: each filling that obeys the rules of t has one that obeys the rules of u and is the same on the choices; and the other way round.
+unfoldable pub fillingsWithin : Theory → Theory → Bool
+fillingsWithin t u =
+    everyFilling (t .variables)
+    (λ f. not (t .obeyed f) || someFilling (u .variables) (λ g. u .obeyed g && eqb (inter g (u .choices)) (inter f (t .choices))))
+
+unfoldable pub fillingsAgree : Theory → Theory → Bool
+fillingsAgree t u = fillingsWithin t u && fillingsWithin u t
 
 -- The same choices, which are variables of both, and the same fillings of them.
 pub record SameChoices (t u : Theory) : Type 0 where

@@ -5,7 +5,6 @@ use mathlib.Core.Logic.{_⊎_, inl, inr}
 use mathlib.Core.Bool.{Bool, true, false, cond}
 use mathlib.Core.List.{List}
 use Prim.Native.Nat.{ℕ, _≤_, _<_}
-use lib.Dec.{ltb}
 use lib.ListN.{length}
 use borrow.Author.Tests.{le-ltb, lt-ltb}
 use Rattle.sets.specs.Sets.{full}
@@ -25,7 +24,7 @@ use Rattle.step.specs.Meaning.{questionOf, Step, stepOf}
 use Rattle.log_form.specs.Format.{Log, logBytes}
 use Rattle.log.specs.Meaning.{runFor, logOf}
 use Rattle.log.specs.Laws.SameFillings.{same-next, same-run}
-use Rattle.engine.specs.Calls.{withModel, NoModelIn, ModelSays, ModelCall, consequenceAnswer, ConsequenceCall, between, stepSays, stepFor, stepAnswer}
+use Rattle.engine.specs.Calls.{withModel, ModelSays, consequenceAnswer, ConsequenceCall, between, stepSays, stepFor, stepAnswer}
 use Rattle.engine.specs.Calls.{StepCall, LogOutcome, logged, refusedWith, logOutcome, logAnswer, bufferAfter, LoggedAs, LogCall}
 use Rattle.engine.specs.SameScreens.{SameScreens, Retyped, BothNine, EqualLogs, SameLogs, GivesModel, SameModels, SameAnswers}
 use Rattle.engine.specs.declared.ModelAnswer.{ModelAnswer}
@@ -70,7 +69,8 @@ module _ {p q : Problem} (w : ProperProblem p) (z : ProperProblem q) (x : SameOv
       lies-same = ap₂ (λ (g : LiteralSet) (c : LiteralSet). between g known c) (given-same w z x) (same-consequence w z x)
 
       go : (b : Bool) → between (given p) known (consequenceOf p) ≡ b
-          → cond b (stepSays (stepOf (questionOf p known))) (StepAnswer.Refused 10 0) ≡ cond b (stepSays (stepOf (questionOf q known))) (StepAnswer.Refused 10 0)
+          → cond b (stepSays (stepOf (questionOf p known))) (StepAnswer.Refused 10 0)
+          ≡ cond b (stepSays (stepOf (questionOf q known))) (StepAnswer.Refused 10 0)
       go true e = ap stepSays (same-next w z x known (sound-between w some known e) (sound-between z (sym has-same ∙ some) known (sym lies-same ∙ e)))
       go false e = refl
 
@@ -84,6 +84,10 @@ long-enough : (s : List ℕ) {b : OrderBook} {end : ℕ} → readBook s ≡ valu
     → logOutcome room (readBook s) ≡ log-or-nine (problemOf b)
 unfolding logOutcome withModel log-or-nine
 long-enough s e room l = rw (e, le-ltb room maxLog l, logOutcome) refl
+
+came-to : {s : List ℕ} {b : OrderBook} {end : ℕ} → readBook s ≡ value b end → {before after : List ℕ} {r : LogAnswer} → LogCall s before after r
+    → maxLog ≤ length before → LoggedAs (log-or-nine (problemOf b)) before after r
+came-to {s} e {before} c l = rw (long-enough s e (length before) l) at (c .said)
 
 -- and with one that is short: 8
 gives-eight : {s : List ℕ} {b : OrderBook} {end : ℕ} → readBook s ≡ value b end → {before after : List ℕ} {r : LogAnswer} → LogCall s before after r
@@ -135,7 +139,9 @@ module _ {s t : List ℕ} (x : Retyped s t) where
   consequence-same : {r o : ConsequenceAnswer} → ConsequenceCall s r → ConsequenceCall t o → r ≡ o
   unfolding consequenceAnswer
   consequence-same c d =
-      c .said ∙ answers-same (λ p. ConsequenceAnswer.Forced (consequenceOf p)) ConsequenceAnswer.Refused (λ some. ap ConsequenceAnswer.Forced (same-consequence w z alike)) ∙ sym (d .said)
+      c .said
+      ∙ answers-same (λ p. ConsequenceAnswer.Forced (consequenceOf p)) ConsequenceAnswer.Refused
+      (λ some. ap ConsequenceAnswer.Forced (same-consequence w z alike)) ∙ sym (d .said)
 
   next-same : {on off : ℕ} {r o : StepAnswer} → StepCall s on off r → StepCall t on off o → r ≡ o
   unfolding stepAnswer
@@ -155,9 +161,7 @@ module _ {s t : List ℕ} (x : Retyped s t) where
 
   logs-same : SameLogs s t
   logs-same = record {
-    equal = λ c d l k.
-        let here = long-enough s (x .accepted) _ l in
-        one-log _ (rw here at (c .said)) (rw (sym (outcomes-same _ _ l k) ∙ here) at (d .said));
+    equal = λ c d l k. one-log _ (came-to (x .accepted) c l) (rw (sym outcome-same) at (came-to (x .other-accepted) d k));
     short = λ c l. gives-eight (x .accepted) c l;
     other-short = λ c l. gives-eight (x .other-accepted) c l;
     nine = λ c d l k m n. (c .nine .none-nine l m, d .nine .none-nine k n);

@@ -2,3 +2,4 @@ pub mod Calls
 pub mod Contracts
 pub mod Orders
 pub mod SameScreens
+pub mod RetypedOrder

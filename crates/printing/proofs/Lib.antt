@@ -8,3 +8,4 @@ mod ReadLaws
 mod LogLaws
 mod WalkLaws
 pub mod PrintLaws
+pub mod SameScreens

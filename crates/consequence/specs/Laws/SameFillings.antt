@@ -1,71 +1,26 @@
 -- What a set of literals over the choices contradicts and forces over the choices depends only on the fillings of the choices that some filling obeying the
 -- rules extends. For any number of variables. Assumes nothing.
 use mathlib.Core.Path.{_≡_, refl, sym, ap, ap₂, _∙_}
-use mathlib.Core.Bool.{Bool, true, false, not}
+use mathlib.Core.Bool.{Bool, true, false, not, _&&_}
 use mathlib.Core.List.{List}
-use Prim.Native.Nat.{ℕ, _+_, _^_, _≤_, _<_, min}
+use Prim.Native.Nat.{ℕ, _<_, min}
 use native.Mathlib.Omega.{arith}
+use borrow.Author.Tests.{eqb-true, eq-eqb}
 use Rattle.sets.specs.Sets.{bit, inter, Within}
 use Rattle.sets.specs.Laws.Bits.{bit-le, bit-inter, member-lt}
 use Rattle.sets.specs.Laws.Subset.{within-le, within-by}
+use Rattle.literals.specs.Laws.{and-both}
 use Rattle.literals.specs.Literal.{Literal}
 use Rattle.literals.specs.Truth.{yesMask, noMask}
 use Rattle.literals.specs.declared.LiteralSet.{LiteralSet}
 use Rattle.propagation.specs.Contracts.{digit}
+use Rattle.sat.specs.Laws.Fillings.{every-all, all-every, some-witness, witness-some}
 use Rattle.problem.specs.Problem.{Problem, given}
 use Rattle.problem.specs.Proper.{ProperProblem}
 use Rattle.consequence.specs.Meaning.{Theory, theoryOf, contradicts, yesForced, noForced, ModelOf, NoModelOf, hasModel, consequenceOf}
-use Rattle.consequence.specs.SameFillings.{Restriction, SameChoices, SameForcing, SameOverChoices}
-use Rattle.consequence.specs.Laws.Forcing.{contradicts-none, none-contradicts, Exactly, exactly-unique, yes-exactly, no-exactly}
+use Rattle.consequence.specs.SameFillings.{Restriction, SameFillings, fillingsWithin, fillingsAgree, SameChoices, SameForcing, SameOverChoices}
+use Rattle.consequence.specs.Laws.Forcing.{implied, implies, contradicts-none, none-contradicts, Exactly, exactly-unique, yes-exactly, no-exactly}
 use Rattle.consequence.specs.Laws.Problems.{has-contradicts, yes-consequence, no-consequence}
-
--- ---- a model beside a model
-
--- Each filling of the choices that the rules of t leave is one that the rules of u leave.
-module _ {t u : Theory} (c : t .choices ≡ u .choices) (there : (g : ℕ) → Restriction t g → Restriction u g) {on off : ℕ} (x : Within on (t .choices))
-    (y : Within off (t .choices)) where
-  -- A model of the set with the rules of u that is f on the choices.
-  record Beside (f : ℕ) : Type 0 where
-    pub filling : ℕ
-    pub model : ModelOf u on off filling
-    pub alike : (v : ℕ) → min (bit filling v) (bit (t .choices) v) ≡ min (bit f v) (bit (t .choices) v)
-
-  -- a model of the set with the rules of t has one beside it
-  beside : (f : ℕ) → ModelOf t on off f → Beside f
-  beside f m =
-      record {
-        filling = r .filling;
-        model = record {
-          below = r .below;
-          keeps = record { keeps = λ v. omega (arith, alike v, x .keeps v, m .keeps .keeps v) };
-          avoids = record { avoids = λ v. omega (arith, alike v, y .keeps v, m .avoids .avoids v, bit-le (r .filling) v) };
-          obeyed = r .obeyed;
-        };
-        alike = alike;
-      }
-    where
-      r : Restriction u (inter f (t .choices))
-      r = there (inter f (t .choices)) (record { filling = f; below = m .below; obeyed = m .obeyed; restricted = refl })
-
-      alike : (v : ℕ) → min (bit (r .filling) v) (bit (t .choices) v) ≡ min (bit f v) (bit (t .choices) v)
-      alike v =
-          ap (λ (k : ℕ). min (bit (r .filling) v) (bit k v)) c ∙ sym (bit-inter (r .filling) (u .choices) v) ∙ ap (λ (k : ℕ). bit k v) (r .restricted)
-          ∙ bit-inter f (t .choices) v
-
-  none-there : NoModelOf u on off → NoModelOf t on off
-  none-there n = record { none = λ f m. let b = beside f m in n .none (b .filling) (b .model) }
-
-  digit-there : (v d : ℕ) → bit (t .choices) v ≡ 1 → ((g : ℕ) → ModelOf u on off g → bit g v ≡ d) → (f : ℕ) → ModelOf t on off f → bit f v ≡ d
-  digit-there v d e h f m =
-      let b = beside f m in omega (arith, b .alike v, h (b .filling) (b .model), e, bit-le f v, bit-le (b .filling) v)
-
--- ---- the law
-
--- two tests that pass together
-pub same-truth : (a b : Bool) → (a ≡ true → b ≡ true) → (b ≡ true → a ≡ true) → a ≡ b
-same-truth true b there back = sym (there refl)
-same-truth false true there back = back refl
-same-truth false false there back = refl
 
 pub choices-back : {t u : Theory} → SameChoices t u → SameChoices u t
 choices-back s =
@@ -76,18 +31,56 @@ choices-back s =
       other-below = s .below;
     }
 
-module _ {t u : Theory} (s : SameChoices t u) where
-  -- a choice of the one is a choice of the other
-  pub choice-there : (v : ℕ) → bit (t .choices) v ≡ 1 → bit (u .choices) v ≡ 1
-  choice-there v e = sym (ap (λ (n : ℕ). bit n v) (s .choices-same)) ∙ e
+-- a choice of the one is a choice of the other
+pub choice-there : {t u : Theory} → SameChoices t u → (v : ℕ) → bit (t .choices) v ≡ 1 → bit (u .choices) v ≡ 1
+choice-there s v e = sym (ap (λ (n : ℕ). bit n v) (s .choices-same)) ∙ e
 
-  module _ {on off : ℕ} (x : Within on (t .choices)) (y : Within off (t .choices)) where
-    -- no model with the one, no model with the other; and a digit of a choice in every model with the one, the same in every model with the other
-    none-same : NoModelOf u on off → NoModelOf t on off
-    none-same = none-there (s .choices-same) (s .fillings-same .there) x y
+-- ---- a model beside a model
 
-    digit-same : (v d : ℕ) → bit (t .choices) v ≡ 1 → ((g : ℕ) → ModelOf u on off g → bit g v ≡ d) → (f : ℕ) → ModelOf t on off f → bit f v ≡ d
-    digit-same = digit-there (s .choices-same) (s .fillings-same .there) x y
+-- A model of a set with the rules of u that is f on the choices.
+record Beside (u : Theory) (on off f : ℕ) : Type 0 where
+  pub filling : ℕ
+  pub model : ModelOf u on off filling
+  pub alike : (v : ℕ) → min (bit filling v) (bit (u .choices) v) ≡ min (bit f v) (bit (u .choices) v)
+
+module _ {t u : Theory} (s : SameChoices t u) {on off : ℕ} (x : Within on (t .choices)) (y : Within off (t .choices)) where
+  -- a model of a set over the choices with the rules of t has one beside it
+  beside : (f : ℕ) → ModelOf t on off f → Beside u on off f
+  beside f m =
+      record {
+        filling = r .filling;
+        model = record {
+          below = r .below;
+          keeps = record { keeps = λ v. omega (arith, alike v, same v, x .keeps v, m .keeps .keeps v) };
+          avoids = record { avoids = λ v. omega (arith, alike v, same v, y .keeps v, m .avoids .avoids v, bit-le (r .filling) v) };
+          obeyed = r .obeyed;
+        };
+        alike = alike;
+      }
+    where
+      r : Restriction u (inter f (t .choices))
+      r = s .fillings-same .there (inter f (t .choices)) (record { filling = f; below = m .below; obeyed = m .obeyed; restricted = refl })
+
+      same : (v : ℕ) → bit (t .choices) v ≡ bit (u .choices) v
+      same v = ap (λ (n : ℕ). bit n v) (s .choices-same)
+
+      alike : (v : ℕ) → min (bit (r .filling) v) (bit (u .choices) v) ≡ min (bit f v) (bit (u .choices) v)
+      alike v =
+          sym (bit-inter (r .filling) (u .choices) v) ∙ ap (λ (k : ℕ). bit k v) (r .restricted) ∙ bit-inter f (t .choices) v ∙ ap (min (bit f v)) (same v)
+
+  none-there : NoModelOf u on off → NoModelOf t on off
+  none-there n = record { none = λ f m. let b = beside f m in n .none (b .filling) (b .model) }
+
+  digit-there : (v d : ℕ) → bit (u .choices) v ≡ 1 → ((g : ℕ) → ModelOf u on off g → bit g v ≡ d) → (f : ℕ) → ModelOf t on off f → bit f v ≡ d
+  digit-there v d e h f m = let b = beside f m in omega (arith, b .alike v, h (b .filling) (b .model), e, bit-le f v, bit-le (b .filling) v)
+
+-- ---- the law
+
+-- two tests that pass together
+same-truth : (a b : Bool) → (a ≡ true → b ≡ true) → (b ≡ true → a ≡ true) → a ≡ b
+same-truth true b there back = sym (there refl)
+same-truth false true there back = back refl
+same-truth false false there back = refl
 
 module _ {t u : Theory} (s : SameChoices t u) {on off : ℕ} (x : Within on (t .choices)) (y : Within off (t .choices)) where
   back : SameChoices u t
@@ -105,18 +98,18 @@ module _ {t u : Theory} (s : SameChoices t u) {on off : ℕ} (x : Within on (t .
       record {
         below = omega (arith, s .other-below, s .choices-same, within-le m (t .choices) (within-by _ _ (λ v e. k .sound v e .0)));
         sound = λ v e.
-            let o = choice-there s v (k .sound v e .0) in
-            (o, digit-same back on-other off-other v d o (k .sound v e .1));
+            let w = k .sound v e in
+            (choice-there s v (w .0), digit-there back on-other off-other v d (w .0) (w .1));
         complete = λ v h e a.
             let o = choice-there back v e in
-            k .complete v (member-lt _ (t .choices) v o (s .below)) o (digit-same s x y v d o a);
+            k .complete v (member-lt _ (t .choices) v o (s .below)) o (digit-there s x y v d e a);
       }
 
   pub same-forcing : SameForcing t u on off
   same-forcing =
       record {
-        same-contradicts = same-truth _ _ (λ e. none-contradicts u on off (none-same back on-other off-other (contradicts-none t on off e)))
-            (λ e. none-contradicts t on off (none-same s x y (contradicts-none u on off e)));
+        same-contradicts = same-truth _ _ (λ e. none-contradicts u on off (none-there back on-other off-other (contradicts-none t on off e)))
+            (λ e. none-contradicts t on off (none-there s x y (contradicts-none u on off e)));
         same-yes = exactly-unique u on off 1 _ _ (forces-same 1 _ (yes-exactly t on off)) (yes-exactly u on off);
         same-no = exactly-unique u on off 0 _ _ (forces-same 0 _ (no-exactly t on off)) (no-exactly u on off);
       }
@@ -166,3 +159,27 @@ module _ {p q : Problem} (w : ProperProblem p) (z : ProperProblem q) (s : SameOv
       ∙ sym (yes-consequence q (z .facts-proper)))
       (no-consequence p (w .facts-proper) ∙ facts-forcing .same-no ∙ ap (λ (g : LiteralSet). noForced (theoryOf q) (g .yes) (g .no)) given-same
       ∙ sym (no-consequence q (z .facts-proper)))
+
+-- ---- the test that is computed
+
+restrictions-within : {t u : Theory} → fillingsWithin t u ≡ true → (g : ℕ) → Restriction t g → Restriction u g
+unfolding fillingsWithin
+restrictions-within {t} {u} e g r =
+    let w = some-witness _ _ (implied _ _ (every-all _ _ e (r .filling) (r .below)) (r .obeyed)) in
+    let both = and-both _ _ (w .2) in
+    record { filling = w .0; below = w .1; obeyed = both .0; restricted = eqb-true _ _ (both .1) ∙ r .restricted }
+
+within-restrictions : {t u : Theory} → ((g : ℕ) → Restriction t g → Restriction u g) → fillingsWithin t u ≡ true
+unfolding fillingsWithin
+within-restrictions {t} {u} h =
+    all-every _ _ (λ f l. implies _ _ (λ o.
+    let r = h (inter f (t .choices)) (record { filling = f; below = l; obeyed = o; restricted = refl }) in
+    witness-some _ _ (r .filling) (r .below) (ap₂ (λ (x : Bool) (y : Bool). x && y) (r .obeyed) (eq-eqb _ _ (r .restricted)))))
+
+pub fillings-agree : {t u : Theory} → fillingsAgree t u ≡ true → SameFillings t u
+unfolding fillingsAgree
+fillings-agree e = let both = and-both _ _ e in record { there = restrictions-within (both .0); back = restrictions-within (both .1) }
+
+pub agree-fillings : {t u : Theory} → SameFillings t u → fillingsAgree t u ≡ true
+unfolding fillingsAgree
+agree-fillings s = ap₂ (λ (x : Bool) (y : Bool). x && y) (within-restrictions (s .there)) (within-restrictions (s .back))

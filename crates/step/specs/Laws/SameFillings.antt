@@ -3,7 +3,7 @@ use mathlib.Core.Path.{_≡_, sym, ap, subst₂, _∙_}
 use mathlib.Core.Logic.{by-cases}
 use mathlib.Core.Bool.{Bool, true, false}
 use mathlib.Core.List.{List}
-use Prim.Native.Nat.{ℕ, _^_, _<_, _≤_}
+use Prim.Native.Nat.{ℕ, _^_, _<_}
 use native.Mathlib.Decide.{ℕ-discrete}
 use native.Mathlib.Omega.{arith}
 use Rattle.sets.specs.Sets.{bit, union, Within}
@@ -15,7 +15,7 @@ use Rattle.propagation.specs.Contracts.{digit}
 use Rattle.consequence.specs.Meaning.{Theory, ModelOf}
 use Rattle.consequence.specs.SameFillings.{SameChoices, SameForcing}
 use Rattle.consequence.specs.Laws.SameFillings.{choices-back, choice-there, same-forcing, forcing-back, same-none, same-digit}
-use Rattle.step.specs.Meaning.{asking, yesGoals, noGoals, goals, Candidate, Step, step, stepOf, theStep, stepFrom}
+use Rattle.step.specs.Meaning.{asking, yesGoals, noGoals, goals, Candidate, Step, step, stepOf}
 use Rattle.step.specs.IsStep.{Sound, oppositeOn, oppositeOff, Goal, Candidature, Upto, placed, New, IsStep}
 use Rattle.step.specs.Laws.Costs.{cost-width}
 use Rattle.step.specs.Laws.Known.{goal-is}

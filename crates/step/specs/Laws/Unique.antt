@@ -1,13 +1,12 @@
 -- There is one step: what `IsStep` says leaves no freedom. Assumes nothing.
 use mathlib.Core.Path.{_≡_, sym, ap, ap₂, _∙_}
 use mathlib.Core.Logic.{by-cases}
-use mathlib.Core.Bool.{Bool}
 use Prim.Native.Nat.{ℕ, _^_, _<_}
 use native.Mathlib.Decide.{ℕ-discrete}
 use native.Mathlib.Omega.{arith}
 use Rattle.sets.specs.Sets.{bit, has}
 use Rattle.sets.specs.Laws.Bits.{bit-le, member-lt, ext}
-use Rattle.literals.specs.Literal.{Literal, literalOf}
+use Rattle.literals.specs.Literal.{literalOf}
 use Rattle.consequence.specs.Meaning.{Theory}
 use Rattle.step.specs.Meaning.{Question, yesGoals, reasonsOn, reasonsOff, Candidate, Step}
 use Rattle.step.specs.IsStep.{Sound, placed, New, IsStep}
