@@ -3,11 +3,12 @@
 use mathlib.Core.Path.{_≡_, refl, sym, ap, ap₂, _∙_}
 use mathlib.Core.Logic.{_⊎_, inl, inr}
 use mathlib.Core.Bool.{Bool, true, false, cond}
-use mathlib.Core.List.{List}
+use mathlib.Core.List.{List, List·Memᴰ}
 use Prim.Native.Nat.{ℕ, _≤_, _<_}
 use lib.ListN.{length}
 use borrow.Author.Tests.{le-ltb, lt-ltb}
 use Rattle.sets.specs.Sets.{full}
+use Rattle.literals.specs.Literal.{Literal}
 use Rattle.literals.specs.declared.LiteralSet.{LiteralSet}
 use Rattle.records.specs.Limits.{maxLog}
 use Rattle.records.specs.Format.{value, OrderBook, readBook}
@@ -16,8 +17,9 @@ use Rattle.book.proofs.WellFormed.{well-formed}
 use Rattle.problem.specs.Problem.{Problem, problemOf, given}
 use Rattle.problem.specs.Proper.{ProperProblem}
 use Rattle.problem.proofs.BookLaws.{proper-book}
-use Rattle.consequence.specs.Meaning.{hasModel, consequenceOf}
-use Rattle.consequence.specs.SameFillings.{SameOverChoices}
+use Rattle.sat.specs.Laws.Rules.{rules-each, each-rules}
+use Rattle.consequence.specs.Meaning.{hasModel, consequenceOf, theoryOf}
+use Rattle.consequence.specs.SameFillings.{Restriction, SameOverChoices}
 use Rattle.consequence.specs.Laws.Problems.{no-filling}
 use Rattle.consequence.specs.Laws.SameFillings.{given-same, same-has-model, same-consequence}
 use Rattle.step.specs.Meaning.{questionOf, Step, stepOf}
@@ -26,7 +28,7 @@ use Rattle.log.specs.Meaning.{runFor, logOf}
 use Rattle.log.specs.Laws.SameFillings.{same-next, same-run}
 use Rattle.engine.specs.Calls.{withModel, ModelSays, consequenceAnswer, ConsequenceCall, between, stepSays, stepFor, stepAnswer}
 use Rattle.engine.specs.Calls.{StepCall, LogOutcome, logged, refusedWith, logOutcome, logAnswer, bufferAfter, LoggedAs, LogCall}
-use Rattle.engine.specs.SameScreens.{SameScreens, Retyped, BothNine, EqualLogs, SameLogs, GivesModel, SameModels, SameAnswers}
+use Rattle.engine.specs.SameScreens.{SameScreens, Reordered, Retyped, BothNine, EqualLogs, SameLogs, GivesModel, SameModels, SameAnswers}
 use Rattle.engine.specs.declared.ModelAnswer.{ModelAnswer}
 use Rattle.engine.specs.declared.ModelAnswer.the-variants as ModelAnswer
 use Rattle.engine.specs.declared.ConsequenceAnswer.{ConsequenceAnswer}
@@ -38,13 +40,13 @@ use Rattle.engine.specs.declared.LogAnswer.the-variants as LogAnswer
 use Rattle.engine.proofs.NineLaws.{none-has}
 use Rattle.engine.proofs.StepLaws.{sound-between}
 
+-- ---- two problems
+
 -- the problems of two such books
 problems-same : {b c : OrderBook} → SameScreens b c → SameOverChoices (problemOf b) (problemOf c)
 unfolding problemOf
 problems-same x =
     record { same-choices = ap full (x .same-choices); same-costs = ap table (x .same-costs); same-facts = x .same-facts; same-fillings = x .same-fillings }
-
--- ---- two problems
 
 module _ {p q : Problem} (w : ProperProblem p) (z : ProperProblem q) (x : SameOverChoices p q) where
   has-same : hasModel p ≡ hasModel q
@@ -190,3 +192,36 @@ module _ {s t : List ℕ} (x : Retyped s t) where
 
   pub same-screens : SameAnswers s t
   same-screens = record { models = models-same; consequence = consequence-same; next-step = next-same; logs = logs-same }
+
+-- ---- rules in another order
+
+reordered-back : {b c : OrderBook} → Reordered b c → Reordered c b
+reordered-back x =
+    record {
+      variables-same = sym (x .variables-same);
+      choices-same = sym (x .choices-same);
+      costs-same = sym (x .costs-same);
+      facts-same = sym (x .facts-same);
+      rules-there = x .rules-back;
+      rules-back = x .rules-there;
+    }
+
+-- a filling obeys rules that are all among others which it obeys
+same-restrictions : {b c : OrderBook} → Reordered b c → (g : ℕ) → Restriction (theoryOf (problemOf b)) g → Restriction (theoryOf (problemOf c)) g
+unfolding problemOf theoryOf
+same-restrictions x g r =
+    record {
+      filling = r .filling;
+      below = rw (x .variables-same) at (r .below);
+      obeyed = each-rules _ _ (λ l m. rules-each _ _ (r .obeyed) l (x .rules-back l m));
+      restricted = rw (x .choices-same) at (r .restricted);
+    }
+
+pub reordered-same : {b c : OrderBook} → Reordered b c → SameScreens b c
+reordered-same x =
+    record {
+      same-choices = x .choices-same;
+      same-costs = x .costs-same;
+      same-facts = x .facts-same;
+      same-fillings = record { there = same-restrictions x; back = same-restrictions (reordered-back x) };
+    }

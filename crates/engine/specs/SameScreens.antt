@@ -2,9 +2,10 @@
 -- books and by the contracts of the calls alone. `same-screens` (proofs/SameScreens) shows it.
 use mathlib.Core.Path.{_≡_}
 use mathlib.Core.Logic.{_⊎_}
-use mathlib.Core.List.{List, _++_}
+use mathlib.Core.List.{List, _++_, List·Memᴰ}
 use Prim.Native.Nat.{ℕ, _≤_, _<_}
 use lib.ListN.{length, drop}
+use Rattle.literals.specs.Literal.{Literal}
 use Rattle.records.specs.Limits.{maxLog}
 use Rattle.records.specs.Format.{value, OrderBook, readBook}
 use Rattle.problem.specs.Problem.{problemOf}
@@ -28,6 +29,16 @@ pub record SameScreens (b c : OrderBook) : Type 0 where
   pub same-costs : b .costs ≡ c .costs
   pub same-facts : b .facts ≡ c .facts
   pub same-fillings : SameFillings (theoryOf (problemOf b)) (theoryOf (problemOf c))
+
+-- The plainest case, that of the request's name: the rules of each are rules of the other, in any order and any number of times, over the same variables.
+-- Such books have the same screens (`reordered-same`, proofs/SameScreens).
+pub record Reordered (b c : OrderBook) : Type 0 where
+  pub variables-same : b .header .variables ≡ c .header .variables
+  pub choices-same : b .header .choices ≡ c .header .choices
+  pub costs-same : b .costs ≡ c .costs
+  pub facts-same : b .facts ≡ c .facts
+  pub rules-there : (r : List Literal) → List·Memᴰ r (b .rules) → List·Memᴰ r (c .rules)
+  pub rules-back : (r : List Literal) → List·Memᴰ r (c .rules) → List·Memᴰ r (b .rules)
 
 -- The bytes s and t read as two such books.
 pub record Retyped (s t : List ℕ) : Type 0 where
@@ -77,6 +88,7 @@ pub record SameModels (s t : List ℕ) : Type 0 where
   pub both : {r o : ModelAnswer} → ModelCall s r → ModelCall t o → (GivesModel r × GivesModel o) ⊎ BothNine ModelAnswer.Refused r o
 
 -- The same screens: the same is filled in, the next step from the same known set is the same, refusals included, and the logs have equal bytes.
+-- Ruled out: a step that settles ties by the rule that is found first; a cost that counts the helpers between reasons and goal.
 pub record SameAnswers (s t : List ℕ) : Type 0 where
   pub models : SameModels s t
   pub consequence : {r o : ConsequenceAnswer} → ConsequenceCall s r → ConsequenceCall t o → r ≡ o

@@ -1,8 +1,8 @@
 -- Rules as masks and as lists of literals, and models as tests. Assumes nothing.
-use mathlib.Core.Path.{_≡_, refl, ap₂}
+use mathlib.Core.Path.{_≡_, refl, ap, ap₂, _∙_}
 use mathlib.Core.Logic.{_⊎_, inl, inr}
 use mathlib.Core.Bool.{Bool, true, _&&_}
-use mathlib.Core.List.{List, [], _∷_, map}
+use mathlib.Core.List.{List, [], _∷_, map, List·Memᴰ, List·Memᴰ·head, List·Memᴰ·tail, List·Memᴰ·not-nil, List·Memᴰ·cases-cons}
 use Prim.Native.Nat.{ℕ, zero, suc, _^_, _≤_, _<_, suc-le-suc}
 use native.Mathlib.Omega.{arith}
 use lib.ListN.{length, getD}
@@ -11,7 +11,7 @@ use Rattle.sets.specs.Sets.{single, subset, disjoint, Within, Apart}
 use Rattle.sets.specs.Laws.Bits.{union-lt, single-lt}
 use Rattle.sets.specs.Laws.Subset.{subset-within, within-subset, disjoint-apart, apart-disjoint}
 use Rattle.literals.specs.Literal.{Literal, variable}
-use Rattle.literals.specs.Truth.{yesMask, noMask, obeysMasks, allHoldMasks}
+use Rattle.literals.specs.Truth.{yesMask, noMask, obeys, obeysMasks, allHoldMasks}
 use Rattle.literals.specs.Laws.{masks-obey, signBit, signMask, mask-none, mask-more, sign-bit, and-both}
 use Rattle.propagation.specs.Contracts.{MasksBelow}
 use Rattle.sat.specs.Meaning.{obeysRules, obeysAll, extends}
@@ -36,6 +36,22 @@ obeys-each f [] ns h = refl
 obeys-each f (y ∷ ys) [] h = refl
 obeys-each f (y ∷ ys) (n ∷ ns) h =
     both-and (obeysMasks f y n) (obeysAll f ys ns) (h zero (omega arith)) (obeys-each f ys ns (λ i l. h (suc i) (suc-le-suc l)))
+
+-- a filling obeys a list of rules exactly where it obeys each of them
+pub rules-each : (f : ℕ) (rs : List (List Literal)) → obeysRules f rs ≡ true → (r : List Literal) → List·Memᴰ r rs → obeys f r ≡ true
+unfolding obeysRules
+rules-each f [] e r m = absurd (List·Memᴰ·not-nil m)
+rules-each f (x ∷ rs) e r m = go (and-both _ _ e) (List·Memᴰ·cases-cons m) (rules-each f rs)
+  where
+    go : (obeys f x ≡ true) × (obeysRules f rs ≡ true) → (r ≡ x) ⊎ List·Memᴰ r rs
+        → (obeysRules f rs ≡ true → (r : List Literal) → List·Memᴰ r rs → obeys f r ≡ true) → obeys f r ≡ true
+    go w (inl q) ih = ap (obeys f) q ∙ w .0
+    go w (inr k) ih = ih (w .1) r k
+
+pub each-rules : (f : ℕ) (rs : List (List Literal)) → ((r : List Literal) → List·Memᴰ r rs → obeys f r ≡ true) → obeysRules f rs ≡ true
+unfolding obeysRules
+each-rules f [] h = refl
+each-rules f (x ∷ rs) h = both-and _ _ (h x (List·Memᴰ·head refl)) (each-rules f rs (λ r m. h r (List·Memᴰ·tail m)))
 
 -- ---- masks and lists say the same
 
