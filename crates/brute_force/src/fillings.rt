@@ -69,6 +69,14 @@ pub fn joined(a: Literals, b: Literals) -> Literals {
     }
 }
 
+// The opposites of these literals.
+pub fn opposite(set: Literals) -> Literals {
+    Literals {
+        yes: set.no,
+        no: set.yes,
+    }
+}
+
 pub fn is_empty(set: Literals) -> bool {
     set.yes | set.no == 0
 }
@@ -102,7 +110,7 @@ fn entry(masks: &[u64; 128], i: usize) -> u64 {
 }
 
 // Whether a filling obeys the first `rules` rules.
-fn obeys(yes: &[u64; 128], no: &[u64; 128], rules: usize, filling: u64) -> bool {
+pub fn obeys(yes: &[u64; 128], no: &[u64; 128], rules: usize, filling: u64) -> bool {
     for i in 0..rules {
         let rule = Literals {
             yes: entry(yes, i),
@@ -149,7 +157,7 @@ fn with(mut f: Fillings, filling: u64) -> Fillings {
 }
 
 // How many fillings are gone through: all of them, or none where there are too many.
-fn number_of(variables: usize) -> u64 {
+pub fn number_of(variables: usize) -> u64 {
     if variables <= Fillings::VARIABLES {
         power(variables)
     } else {

@@ -35,7 +35,7 @@ fn byte_of(n: u64) -> u8 {
     (n % 256) as u8
 }
 
-// The literals over choice v + 1, of which there is at most one.
+// The literals over variable v + 1, of which there is at most one.
 fn one(d: Draft, set: Literals, v: u8) -> Draft {
     let variable = std::num::wrapping_add_u8(v, 1);
     if fillings::has(set.yes, size(v)) {
@@ -48,16 +48,16 @@ fn one(d: Draft, set: Literals, v: u8) -> Draft {
 }
 
 // The literals of a set, rising by variable.
-fn list(d: Draft, set: Literals) -> Draft {
+pub fn list(d: Draft, set: Literals) -> Draft {
     let mut made = d;
-    for v in 0..20 {
+    for v in 0..32 {
         made = one(made, set, v);
     }
     made
 }
 
 // A list with the number of its bytes before it, which is put in once they are there.
-fn counted_list(d: Draft, set: Literals) -> Draft {
+pub fn counted_list(d: Draft, set: Literals) -> Draft {
     let made = list(build::put(d, 0), set);
     let place = d.len;
     let count = std::num::wrapping_sub_usize(made.len, std::num::wrapping_add_usize(place, 1));

@@ -87,10 +87,7 @@ fn better(made: Candidate, best: Candidate) -> Candidate {
 
 // One goal for a set of known literals: the better of the two and the best so far.
 fn tried(all: &[u64], costs: [u16; 40], set: Set, goal: Literals, best: Candidate) -> Candidate {
-    let opposite = Literals {
-        yes: goal.no,
-        no: goal.yes,
-    };
+    let opposite = fillings::opposite(goal);
     let made = Candidate {
         found: true,
         cost: std::num::wrapping_add_u64(set.cost, cost_of(costs, opposite)),

@@ -5,16 +5,18 @@ pub mod made;
 mod shapes;
 mod ties;
 
+use made::Shape;
 use samples::build::Draft;
 use samples::edits;
 use samples::random;
 
-// Good books of any shape, the same edited, books with a model planted, with a hidden core, with many ties,
-// circuits.
+// Good books of any shape, the same edited, books with a model planted, with many rules, with a hidden core, with many
+// ties, circuits.
 pub enum Form {
     Any,
     Edited,
     Planted,
+    Dense,
     Core,
     Ties,
     Circuit,
@@ -28,23 +30,28 @@ pub struct Kind {
     pub cost: u16,
 }
 
-fn any(kind: Kind, seed: u64) -> Draft {
-    let like = shapes::any(seed, kind.variables, kind.choices, kind.cost);
-    made::book(random::next(seed), like)
+// What the books of a kind are like that are drawn to a shape.
+fn shape(kind: Kind, seed: u64) -> Shape {
+    let form = kind.form;
+    match form {
+        Form::Planted => shapes::planted(seed, kind.variables, kind.choices, kind.cost),
+        Form::Dense => shapes::dense(seed, kind.variables, kind.choices, kind.cost),
+        _ => shapes::any(seed, kind.variables, kind.choices, kind.cost),
+    }
 }
 
-fn planted(kind: Kind, seed: u64) -> Draft {
-    let like = shapes::planted(seed, kind.variables, kind.choices, kind.cost);
-    made::book(random::next(seed), like)
+fn shaped(kind: Kind, seed: u64) -> Draft {
+    made::book(random::next(seed), shape(kind, seed))
 }
 
 // The book of a kind that comes from a seed, with the state that the next seed comes from.
 pub fn book(kind: Kind, seed: u64) -> Draft {
     let form = kind.form;
     match form {
-        Form::Any => any(kind, seed),
-        Form::Edited => edits::much_edited(any(kind, seed)),
-        Form::Planted => planted(kind, seed),
+        Form::Any => shaped(kind, seed),
+        Form::Edited => edits::much_edited(shaped(kind, seed)),
+        Form::Planted => shaped(kind, seed),
+        Form::Dense => shaped(kind, seed),
         Form::Core => cores::made(seed),
         Form::Ties => ties::made(seed),
         Form::Circuit => circuits::made(seed, kind.variables, kind.choices, kind.cost),

@@ -66,3 +66,22 @@ pub fn planted(seed: u64, most_variables: u8, most_choices: u8, cost: u16) -> Sh
         filling: random::next(d),
     }
 }
+
+// So many variables and choices, up to two facts, and so many rules of two to four literals that few fillings obey them all
+// or none: what follows often shows only where variables are tried both ways.
+pub fn dense(seed: u64, variables: u8, choices: u8, cost: u16) -> Shape {
+    let a = random::next(seed);
+    let twice = std::num::wrapping_add_u8(variables, variables);
+    Shape {
+        variables,
+        choices,
+        rules: std::num::wrapping_add_u8(twice, up_to(a, variables)),
+        fewest: 2,
+        literals: 4,
+        cost,
+        givens: least(choices, 2),
+        every: 2,
+        planted: false,
+        filling: 0,
+    }
+}

@@ -1,9 +1,16 @@
-// The engine's next step, asked for and held against what is due.
+// The engine's next step, asked for and held against what is due, or against what it says of another book.
 use brute_force::fillings;
 use brute_force::fillings::Literals;
 use brute_force::steps::Taken;
 use engine::StepAnswer;
 use literals::LiteralSet;
+
+// What the engine says: the refusal, or number 0 and the step. The step is not found where nothing is left.
+pub struct Said {
+    pub number: u8,
+    pub place: usize,
+    pub step: Taken,
+}
 
 fn masks(set: LiteralSet) -> Literals {
     Literals {
@@ -26,8 +33,14 @@ fn wide(cost: u16) -> u64 {
     cost as u64
 }
 
-// Whether two steps are the same.
+// Whether two steps are the same, or nothing is left twice.
 fn same_step(a: Taken, b: Taken) -> bool {
+    if a.found != b.found {
+        return false;
+    }
+    if !a.found {
+        return true;
+    }
     if !fillings::same(a.goal, b.goal) {
         return false;
     }
@@ -40,52 +53,70 @@ fn same_step(a: Taken, b: Taken) -> bool {
     a.cost == b.cost
 }
 
-// Whether the engine gives this step from this known set, or that nothing is left.
-pub fn step_agrees(s: &[u8], known: Literals, due: Taken) -> bool {
+// No step, and the number and place of a refusal.
+fn none(number: u8, place: usize) -> Said {
+    let nothing = Literals { yes: 0, no: 0 };
+    Said {
+        number,
+        place,
+        step: Taken {
+            found: false,
+            goal: nothing,
+            reasons: nothing,
+            new: nothing,
+            cost: 0,
+            tied: false,
+        },
+    }
+}
+
+// What the engine says from this known set.
+pub fn answer(s: &[u8], known: Literals) -> Said {
     match engine::next_step(s, known.yes, known.no) {
         StepAnswer::Step {
             goal,
             reasons,
             new,
             cost,
-        } => {
-            let found = Taken {
+        } => Said {
+            number: 0,
+            place: 0,
+            step: Taken {
                 found: true,
                 goal: alone(goal),
                 reasons: masks(reasons),
                 new: masks(new),
                 cost: wide(cost),
                 tied: false,
-            };
-            if due.found {
-                same_step(found, due)
-            } else {
-                false
-            }
-        }
-        StepAnswer::NothingLeft => !due.found,
-        StepAnswer::Refused {
-            number: _,
-            place: _,
-        } => false,
+            },
+        },
+        StepAnswer::NothingLeft => none(0, 0),
+        StepAnswer::Refused { number, place } => none(number, place),
     }
+}
+
+// Whether the same was said twice.
+pub fn same(a: Said, b: Said) -> bool {
+    if a.number != b.number {
+        return false;
+    }
+    if a.place != b.place {
+        return false;
+    }
+    same_step(a.step, b.step)
+}
+
+// Whether the engine gives this step from this known set, or that nothing is left.
+pub fn step_agrees(s: &[u8], known: Literals, due: Taken) -> bool {
+    let accepted = Said {
+        number: 0,
+        place: 0,
+        step: due,
+    };
+    same(answer(s, known), accepted)
 }
 
 // Whether the engine refuses to step from this known set, with this number and place.
 pub fn step_refused(s: &[u8], known: Literals, due: u8, at: usize) -> bool {
-    match engine::next_step(s, known.yes, known.no) {
-        StepAnswer::Step {
-            goal: _,
-            reasons: _,
-            new: _,
-            cost: _,
-        } => false,
-        StepAnswer::NothingLeft => false,
-        StepAnswer::Refused { number, place } => {
-            if number != due {
-                return false;
-            }
-            place == at
-        }
-    }
+    same(answer(s, known), none(due, at))
 }

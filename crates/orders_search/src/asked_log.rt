@@ -1,7 +1,8 @@
-// The engine's log, asked for and held against what is due.
+// The engine's log, asked for and held against what is due, or against the log of another book.
 ghost use Prim.Native.Nat.{_≤_};
 use brute_force::logs::Log;
 use engine::LogAnswer;
+use samples::build;
 
 // What the engine answered to a call for the log, number 0 where it wrote one, and the room in which its buffer lay.
 struct Answered {
@@ -16,8 +17,10 @@ struct Answered {
 impl Answered {
     const ROOM: usize = 640;
 
-    // What the room holds before the call.
+    // What the room holds before the call, and what it holds where two calls are to find different bytes.
     const BEFORE: u8 = 165;
+
+    const OTHER_BEFORE: u8 = 90;
 }
 
 // A buffer's length: at most that of the room.
@@ -31,9 +34,9 @@ fn fitting(len: usize) -> usize
     }
 }
 
-// The log asked for with a buffer of `len` bytes, or of all the room.
-fn written(s: &[u8], len: usize) -> Answered {
-    let mut room = [Answered::BEFORE; Answered::ROOM];
+// The log asked for with a buffer of `len` bytes, or of all the room, which holds this byte everywhere.
+fn written(s: &[u8], len: usize, before: u8) -> Answered {
+    let mut room = [before; Answered::ROOM];
     let end = fitting(len);
     match engine::log(s, &mut room[0..end]) {
         LogAnswer::Written { size, steps, total } => Answered {
@@ -55,10 +58,10 @@ fn written(s: &[u8], len: usize) -> Answered {
     }
 }
 
-// Whether the room holds the first `len` of these bytes and is as before beyond them.
-fn same_room(room: [u8; Answered::ROOM], bytes: [u8; 2048], len: usize) -> bool {
+// Whether the room holds these bytes and beyond them what it held before.
+fn same_room(room: [u8; Answered::ROOM], bytes: &[u8], before: u8) -> bool {
     for i in 0..Answered::ROOM {
-        let due = if i < len { bytes[i] } else { Answered::BEFORE };
+        let due = if i < bytes.len() { bytes[i] } else { before };
         if room[i] != due {
             return false;
         }
@@ -87,7 +90,7 @@ fn same_numbers(w: Answered, due: Log) -> bool {
 
 // Whether the engine writes this log into a buffer of `len` bytes and leaves the rest of the room alone.
 pub fn log_agrees(s: &[u8], len: usize, due: Log) -> bool {
-    let w = written(s, len);
+    let w = written(s, len, Answered::BEFORE);
     if w.number != 0 {
         return false;
     }
@@ -97,12 +100,12 @@ pub fn log_agrees(s: &[u8], len: usize, due: Log) -> bool {
     let room = w.room;
     let draft = due.written;
     let bytes = draft.bytes;
-    same_room(room, bytes, draft.len)
+    same_room(room, build::part(&bytes, draft.len), Answered::BEFORE)
 }
 
 // Whether the engine refuses to write a log, with this number and place, and leaves all of the room alone.
 pub fn log_refused(s: &[u8], len: usize, due: u8, at: usize) -> bool {
-    let w = written(s, len);
+    let w = written(s, len, Answered::BEFORE);
     if w.number != due {
         return false;
     }
@@ -110,5 +113,39 @@ pub fn log_refused(s: &[u8], len: usize, due: u8, at: usize) -> bool {
         return false;
     }
     let room = w.room;
-    same_room(room, [0; 2048], 0)
+    same_room(room, &[], Answered::BEFORE)
+}
+
+// Whether two calls returned the same numbers.
+fn same_answer(a: Answered, b: Answered) -> bool {
+    if a.number != b.number || a.place != b.place {
+        return false;
+    }
+    if a.size != b.size || a.steps != b.steps {
+        return false;
+    }
+    a.total == b.total
+}
+
+// The steps of a book's log.
+pub fn steps(s: &[u8]) -> u8 {
+    written(s, 547, Answered::BEFORE).steps
+}
+
+// Whether two books have the same log, or the same refusal, written into buffers of different lengths that held different
+// bytes, which are still there beyond the log.
+pub fn same_log(s: &[u8], other: &[u8]) -> bool {
+    let a = written(s, 547, Answered::BEFORE);
+    let b = written(other, 640, Answered::OTHER_BEFORE);
+    if !same_answer(a, b) {
+        return false;
+    }
+    let first = a.room;
+    let second = b.room;
+    let lent = a.room;
+    let log = build::part(&lent, a.size);
+    if !same_room(first, log, Answered::BEFORE) {
+        return false;
+    }
+    same_room(second, log, Answered::OTHER_BEFORE)
 }

@@ -10,11 +10,11 @@ use samples::build::Draft;
 use samples::reckon;
 use samples::reckon::Reckoned;
 
-// What is due of a book: the refusal, or number 0 and what follows.
-struct Due {
-    number: u8,
-    place: usize,
-    forced: Literals,
+// What is due of a book, or said of it: the refusal, or number 0 and what follows.
+pub struct Due {
+    pub number: u8,
+    pub place: usize,
+    pub forced: Literals,
 }
 
 // Whether a refusal is the one that is due.
@@ -26,7 +26,7 @@ fn same_refusal(number: u8, place: usize, due: Due) -> bool {
 }
 
 // Whether `engine::model` gives a model, or the refusal that is due.
-fn model_agrees(s: &[u8], b: Reckoned, due: Due) -> bool {
+pub fn model_agrees(s: &[u8], b: Reckoned, due: Due) -> bool {
     match engine::model(s) {
         ModelAnswer::Model(m) => {
             if due.number != 0 {
@@ -38,25 +38,38 @@ fn model_agrees(s: &[u8], b: Reckoned, due: Due) -> bool {
     }
 }
 
-// Whether `engine::consequence` gives what follows, or the refusal that is due.
-fn consequence_agrees(s: &[u8], due: Due) -> bool {
+// What `engine::consequence` says.
+pub fn consequence_said(s: &[u8]) -> Due {
     match engine::consequence(s) {
-        ConsequenceAnswer::Forced(set) => {
-            if due.number != 0 {
-                return false;
-            }
-            let found = Literals {
+        ConsequenceAnswer::Forced(set) => Due {
+            number: 0,
+            place: 0,
+            forced: Literals {
                 yes: set.yes,
                 no: set.no,
-            };
-            fillings::same(found, due.forced)
-        }
-        ConsequenceAnswer::Refused { number, place } => same_refusal(number, place, due),
+            },
+        },
+        ConsequenceAnswer::Refused { number, place } => Due {
+            number,
+            place,
+            forced: Literals { yes: 0, no: 0 },
+        },
     }
 }
 
+// Whether two consequences are the same, or refused in the same way.
+pub fn same_consequence(a: Due, b: Due) -> bool {
+    if !same_refusal(a.number, a.place, b) {
+        return false;
+    }
+    if a.number != 0 {
+        return true;
+    }
+    fillings::same(a.forced, b.forced)
+}
+
 // What is due of a good book: the consequence, or 9 at 0 where there is no model.
-fn due_of(b: Reckoned, all: &[u64]) -> Due {
+pub fn due_of(b: Reckoned, all: &[u64]) -> Due {
     let facts = fillings::facts(b);
     Due {
         number: if fillings::possible(all, facts) { 0 } else { 9 },
@@ -82,7 +95,8 @@ fn asked(t: Tally, s: &[u8], b: Reckoned, due: Due) -> Tally {
     let read = readings::agree(engine::read_book(s), engine::read_costs(s), b);
     let t = tally::noted(t, tally::READING, read);
     let t = tally::noted(t, tally::MODEL, model_agrees(s, b, due));
-    tally::noted(t, tally::CONSEQUENCE, consequence_agrees(s, due))
+    let forced = same_consequence(consequence_said(s), due);
+    tally::noted(t, tally::CONSEQUENCE, forced)
 }
 
 // One more book.

@@ -1,30 +1,39 @@
 // Groups of many books made up.
 use crate::compare;
+use crate::retyped;
 use crate::tally::Tally;
 use crate::walks;
 use made_books::Kind;
+use samples::build::Draft;
 use samples::random;
 
-// Their readings, models and consequences.
-pub fn compared(t: Tally, books: u32, kind: Kind, start: u64) -> Tally {
-    let mut after = t;
-    let mut seed = start;
-    for i in 0..books {
-        let d = made_books::book(kind, seed);
-        after = compare::count(after, d);
-        seed = random::next(d.seed);
-    }
-    after
+// What is asked of each book: its reading, model and consequence; its steps and log; whether the same retyped is answered
+// alike; whether its choices, costs and facts with the rules of the book after it are not.
+pub enum Task {
+    Compared,
+    Walked,
+    Retyped,
+    OtherRules,
 }
 
-// Their steps and logs.
-pub fn walked(t: Tally, books: u32, kind: Kind, start: u64) -> Tally {
+// One book, and the one after it.
+fn one(t: Tally, what: Task, d: Draft, next: Draft) -> Tally {
+    match what {
+        Task::Compared => compare::count(t, d),
+        Task::Walked => walks::count(t, d),
+        Task::Retyped => retyped::count(t, d),
+        Task::OtherRules => retyped::count_others(t, d, next),
+    }
+}
+
+// So many books of a kind.
+pub fn each(t: Tally, what: Task, books: u32, kind: Kind, start: u64) -> Tally {
     let mut after = t;
-    let mut seed = start;
+    let mut d = made_books::book(kind, start);
     for i in 0..books {
-        let d = made_books::book(kind, seed);
-        seed = random::next(d.seed);
-        after = walks::count(after, d);
+        let next = made_books::book(kind, random::next(d.seed));
+        after = one(after, what, d, next);
+        d = next;
     }
     after
 }

@@ -1,12 +1,13 @@
 // The lines of a tally: a group that was tried, a kind that was seen, and the logs by their steps.
+use crate::report_pairs;
 use crate::tally;
 use crate::tally::Tally;
 
-fn write(text: &[u8]) {
+pub fn write(text: &[u8]) {
     io::write_all(libc::STDOUT_FILENO, text);
 }
 
-fn number(n: u64) {
+pub fn number(n: u64) {
     io::print_decimal(libc::STDOUT_FILENO, n);
 }
 
@@ -50,8 +51,10 @@ fn write_group(group: usize) {
         write_book_group(group);
     } else if group < tally::WITHOUT_MODEL {
         write_step_group(group);
-    } else {
+    } else if group < tally::SAME_TERMS {
         write_log_group(group);
+    } else {
+        report_pairs::write_group(group);
     }
 }
 
@@ -64,7 +67,8 @@ fn write_kind(kind: usize) {
         tally::NO_VARIABLES => write(b"books with no variables"),
         tally::NO_CHOICES => write(b"books with no choices"),
         tally::NO_RULES => write(b"books with no rules"),
-        _ => write(b"books left out"),
+        tally::LEFT_OUT => write(b"books left out"),
+        _ => report_pairs::write_kind(kind),
     }
 }
 
@@ -99,7 +103,7 @@ fn results(t: Tally) {
 }
 
 fn counts(t: Tally) {
-    for kind in tally::TIED..tally::KINDS {
+    for kind in tally::TIED..tally::LINES {
         count(kind, t.seen[kind]);
     }
 }
@@ -120,6 +124,12 @@ pub fn all(heading: &[u8], t: Tally) {
     counts(t);
     if t.tried[tally::WHOLE_LOG] > 0 {
         logs_by_steps(t);
+    }
+    if t.tried[tally::SAME_LOG] > 0 {
+        report_pairs::ways(t);
+    }
+    if t.seen[tally::OTHERS] > 0 {
+        report_pairs::others(t);
     }
     write(b"\n");
 }

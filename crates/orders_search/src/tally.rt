@@ -42,7 +42,26 @@ pub const SHORT_BUFFER: usize = 15;
 
 pub const NO_LOG: usize = 16;
 
-pub const GROUPS: usize = NO_LOG + 1;
+// Two books that were typed differently: the same choices, costs and facts, the same fillings of the choices; a model in
+// both or in neither, the same consequence, the same step from a known set, the same answer to any two masks, the same
+// log, and 8 for one whose buffer is too short.
+pub const SAME_TERMS: usize = 17;
+
+pub const SAME_FILLINGS: usize = 18;
+
+pub const SAME_MODEL: usize = 19;
+
+pub const SAME_CONSEQUENCE: usize = 20;
+
+pub const SAME_STEP: usize = 21;
+
+pub const SAME_AT_MASKS: usize = 22;
+
+pub const SAME_LOG: usize = 23;
+
+pub const ONE_SHORT: usize = 24;
+
+pub const GROUPS: usize = ONE_SHORT + 1;
 
 // Logs of no step, of one, two, .. and of seven or more.
 pub const STEPS: usize = 0;
@@ -69,7 +88,35 @@ pub const NO_RULES: usize = 14;
 // Books that are left out: more fillings obey their rules than there is room for.
 pub const LEFT_OUT: usize = 15;
 
-pub const KINDS: usize = LEFT_OUT + 1;
+// Pairs of books without a model, with a log of at least one step, with one of at least three; masks that are refused
+// with 10.
+pub const PAIRS_NO_MODEL: usize = 16;
+
+pub const PAIRS_WITH_STEP: usize = 17;
+
+pub const PAIRS_WITH_THREE: usize = 18;
+
+pub const MASKS_REFUSED: usize = 19;
+
+// Here end the kinds that have a line each.
+pub const LINES: usize = MASKS_REFUSED + 1;
+
+// Pairs of books with other fillings of the choices, those of them with other logs, and pairs left out since the fillings
+// are the same.
+pub const OTHERS: usize = LINES;
+
+pub const OTHERS_DIFFER: usize = OTHERS + 1;
+
+pub const OTHERS_SAME: usize = OTHERS + 2;
+
+// Pairs of books by the way in which one was retyped, and those of them with other bytes.
+pub const WAYS: usize = retyped_books::WAYS;
+
+pub const RETYPED: usize = OTHERS + 3;
+
+pub const CHANGED: usize = RETYPED + WAYS;
+
+pub const KINDS: usize = CHANGED + WAYS;
 
 // Of each group: how often the engine was asked, and how often its answer was not what is due. Of each kind of book, step
 // or log, as reckoned: how many there were.
@@ -105,6 +152,12 @@ pub fn noted(mut t: Tally, group: usize, agrees: bool) -> Tally {
         t.differ[group] = more(differ, !agrees);
     }
     t
+}
+
+// One more pair of books of a way of retyping.
+pub fn seen_way(t: Tally, way: usize, changed: bool) -> Tally {
+    let t = seen(t, std::num::wrapping_add_usize(RETYPED, way), true);
+    seen(t, std::num::wrapping_add_usize(CHANGED, way), changed)
 }
 
 // One more of a kind, where it is of that kind.

@@ -23,7 +23,7 @@ pub struct Case {
     pub consequence: Literals,
 }
 
-fn case_of(all: &[u64], b: Reckoned) -> Case {
+pub fn case_of(all: &[u64], b: Reckoned) -> Case {
     let costs = b.costs;
     let choices = fillings::first(b.choices);
     let facts = fillings::facts(b);
@@ -79,7 +79,7 @@ fn along(t: Tally, s: &[u8], all: &[u64], case: Case) -> Way {
 }
 
 // The facts, and what the consequence has over the variables of a mask.
-fn known_set(case: Case, mask: u64) -> Literals {
+pub fn known_set(case: Case, mask: u64) -> Literals {
     fillings::joined(case.facts, fillings::within(case.consequence, mask))
 }
 

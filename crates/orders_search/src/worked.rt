@@ -26,6 +26,13 @@ fn byte_at(s: &[u8], place: usize) -> u8 {
     if place < s.len() { s[place] } else { 0 }
 }
 
+// Whether two drafts have the same bytes.
+pub fn same_drafts(a: Draft, b: Draft) -> bool {
+    let bytes = a.bytes;
+    let other_bytes = b.bytes;
+    same_bytes(build::part(&bytes, a.len), build::part(&other_bytes, b.len))
+}
+
 // The reckoned log of a good book.
 fn reckoned_log(d: Draft) -> Draft {
     let bytes = d.bytes;
@@ -62,14 +69,7 @@ fn log_of_p() -> Draft {
 // One more order.
 fn one(t: Tally, letter: u8) -> Tally {
     let log = reckoned_log(counter::order(letter));
-    let bytes = log.bytes;
-    let due = log_of(letter);
-    let due_bytes = due.bytes;
-    let same = same_bytes(
-        build::part(&bytes, log.len),
-        build::part(&due_bytes, due.len),
-    );
-    tally::noted(t, tally::WORKED, same)
+    tally::noted(t, tally::WORKED, same_drafts(log, log_of(letter)))
 }
 
 // Book P and the orders d, g, h and i.

@@ -1,0 +1,11 @@
+-- The loop counts `i` up to 40.
+use borrow.Author.Needs.{needs}
+use Prim.Native.Nat.{_-_}
+use Rattle.orders_search.proofs.retyped.same_costs.Statement.{statement}
+use Rattle.orders_search.proofs.retyped.same_costs.Tie as tie
+
+pub same-costs-spec : {M : Type 1} → statement M
+same-costs-spec =
+    tie.close (tie.spec (λ _ _ _ _. Unit {0}) (λ _ _ _ i. 40 - i) (λ c. search needs) (λ c. search needs)
+    (λ c. search needs) (λ c. search needs) (λ c. search needs) (λ c. search needs) (λ c. search needs)
+    (λ c. search needs) (λ c. search needs) (λ c. search needs))
