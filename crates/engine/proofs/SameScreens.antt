@@ -196,32 +196,25 @@ module _ {s t : List ℕ} (x : Retyped s t) where
 -- ---- rules in another order
 
 reordered-back : {b c : OrderBook} → Reordered b c → Reordered c b
-reordered-back x =
-    record {
-      variables-same = sym (x .variables-same);
-      choices-same = sym (x .choices-same);
-      costs-same = sym (x .costs-same);
-      facts-same = sym (x .facts-same);
-      rules-there = x .rules-back;
-      rules-back = x .rules-there;
-    }
+reordered-back x = record { same-variables = sym (x .same-variables); rules-there = x .rules-back; rules-back = x .rules-there }
 
 -- a filling obeys rules that are all among others which it obeys
-same-restrictions : {b c : OrderBook} → Reordered b c → (g : ℕ) → Restriction (theoryOf (problemOf b)) g → Restriction (theoryOf (problemOf c)) g
+reordered-fillings : {b c : OrderBook} → Reordered b c → b .header .choices ≡ c .header .choices → (g : ℕ) → Restriction (theoryOf (problemOf b)) g
+    → Restriction (theoryOf (problemOf c)) g
 unfolding problemOf theoryOf
-same-restrictions x g r =
+reordered-fillings x choices g r =
     record {
       filling = r .filling;
-      below = rw (x .variables-same) at (r .below);
+      below = rw (x .same-variables) at (r .below);
       obeyed = each-rules _ _ (λ l m. rules-each _ _ (r .obeyed) l (x .rules-back l m));
-      restricted = rw (x .choices-same) at (r .restricted);
+      restricted = rw choices at (r .restricted);
     }
 
-pub reordered-same : {b c : OrderBook} → Reordered b c → SameScreens b c
-reordered-same x =
+pub reordered-same : {b c : OrderBook} → Reordered b c → b .header .choices ≡ c .header .choices → b .costs ≡ c .costs → b .facts ≡ c .facts → SameScreens b c
+reordered-same x choices costs facts =
     record {
-      same-choices = x .choices-same;
-      same-costs = x .costs-same;
-      same-facts = x .facts-same;
-      same-fillings = record { there = same-restrictions x; back = same-restrictions (reordered-back x) };
+      same-choices = choices;
+      same-costs = costs;
+      same-facts = facts;
+      same-fillings = record { there = reordered-fillings x choices; back = reordered-fillings (reordered-back x) (sym choices) };
     }

@@ -30,13 +30,10 @@ pub record SameScreens (b c : OrderBook) : Type 0 where
   pub same-facts : b .facts ≡ c .facts
   pub same-fillings : SameFillings (theoryOf (problemOf b)) (theoryOf (problemOf c))
 
--- The plainest case, that of the request's name: the rules of each are rules of the other, in any order and any number of times, over the same variables.
--- Such books have the same screens (`reordered-same`, proofs/SameScreens).
+-- The plainest case, that of the request's name: over the same variables the rules of each are rules of the other, in any order and any number of times.
+-- With the same U, costs and facts such books have the same screens (`reordered-same`, proofs/SameScreens).
 pub record Reordered (b c : OrderBook) : Type 0 where
-  pub variables-same : b .header .variables ≡ c .header .variables
-  pub choices-same : b .header .choices ≡ c .header .choices
-  pub costs-same : b .costs ≡ c .costs
-  pub facts-same : b .facts ≡ c .facts
+  pub same-variables : b .header .variables ≡ c .header .variables
   pub rules-there : (r : List Literal) → List·Memᴰ r (b .rules) → List·Memᴰ r (c .rules)
   pub rules-back : (r : List Literal) → List·Memᴰ r (c .rules) → List·Memᴰ r (b .rules)
 
@@ -88,7 +85,7 @@ pub record SameModels (s t : List ℕ) : Type 0 where
   pub both : {r o : ModelAnswer} → ModelCall s r → ModelCall t o → (GivesModel r × GivesModel o) ⊎ BothNine ModelAnswer.Refused r o
 
 -- The same screens: the same is filled in, the next step from the same known set is the same, refusals included, and the logs have equal bytes.
--- Ruled out: a step that settles ties by the rule that is found first; a cost that counts the helpers between reasons and goal.
+-- Ruled out: ties settled by the rule that comes first; a cost that counts the helpers between the reasons and the goal.
 pub record SameAnswers (s t : List ℕ) : Type 0 where
   pub models : SameModels s t
   pub consequence : {r o : ConsequenceAnswer} → ConsequenceCall s r → ConsequenceCall t o → r ≡ o
