@@ -1,4 +1,5 @@
--- The laws of the consequence, by topic: forcing as a test and for every filling, the masks of the code, a problem's models and consequence. Assumes nothing.
+-- The laws of the consequence, by topic: forcing as a test and for every filling, the masks of the code, a problem's models and consequence, two theories
+-- with the same fillings of the choices. Assumes nothing.
 pub mod Forcing
 pub mod Masks
 pub mod Problems
