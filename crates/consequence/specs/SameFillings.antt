@@ -1,4 +1,4 @@
--- The fillings of the choices alone (document 02, E1): of two sets of rules, over variables and helpers of their own, all that the choices can show.
+-- Fillings of the choices alone (document 02, E1), and when two theories, each with variables and rules of its own, leave the same ones.
 use mathlib.Core.Path.{_≡_}
 use mathlib.Core.Bool.{Bool, true, not, _&&_, _||_}
 use Prim.Native.Nat.{ℕ, _^_, _<_}

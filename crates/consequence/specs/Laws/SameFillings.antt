@@ -35,18 +35,18 @@ choices-back s =
 pub choice-there : {t u : Theory} → SameChoices t u → (v : ℕ) → bit (t .choices) v ≡ 1 → bit (u .choices) v ≡ 1
 choice-there s v e = sym (ap (λ (n : ℕ). bit n v) (s .choices-same)) ∙ e
 
--- ---- a model beside a model
+-- ---- a model that agrees on the choices
 
--- A model of a set with the rules of u that is f on the choices.
-record Beside (u : Theory) (on off f : ℕ) : Type 0 where
+-- A model of a set with the rules of u that agrees with f on the choices.
+record AgreeingModel (u : Theory) (on off f : ℕ) : Type 0 where
   pub filling : ℕ
   pub model : ModelOf u on off filling
   pub alike : (v : ℕ) → min (bit filling v) (bit (u .choices) v) ≡ min (bit f v) (bit (u .choices) v)
 
 module _ {t u : Theory} (s : SameChoices t u) {on off : ℕ} (x : Within on (t .choices)) (y : Within off (t .choices)) where
-  -- a model of a set over the choices with the rules of t has one beside it
-  beside : (f : ℕ) → ModelOf t on off f → Beside u on off f
-  beside f m =
+  -- every model of a set over the choices with the rules of t has one
+  agreeing-model : (f : ℕ) → ModelOf t on off f → AgreeingModel u on off f
+  agreeing-model f m =
       record {
         filling = r .filling;
         model = record {
@@ -69,10 +69,10 @@ module _ {t u : Theory} (s : SameChoices t u) {on off : ℕ} (x : Within on (t .
           sym (bit-inter (r .filling) (u .choices) v) ∙ ap (λ (k : ℕ). bit k v) (r .restricted) ∙ bit-inter f (t .choices) v ∙ ap (min (bit f v)) (same v)
 
   none-there : NoModelOf u on off → NoModelOf t on off
-  none-there n = record { none = λ f m. let b = beside f m in n .none (b .filling) (b .model) }
+  none-there n = record { none = λ f m. let b = agreeing-model f m in n .none (b .filling) (b .model) }
 
   digit-there : (v d : ℕ) → bit (u .choices) v ≡ 1 → ((g : ℕ) → ModelOf u on off g → bit g v ≡ d) → (f : ℕ) → ModelOf t on off f → bit f v ≡ d
-  digit-there v d e h f m = let b = beside f m in omega (arith, b .alike v, h (b .filling) (b .model), e, bit-le f v, bit-le (b .filling) v)
+  digit-there v d e h f m = let b = agreeing-model f m in omega (arith, b .alike v, h (b .filling) (b .model), e, bit-le f v, bit-le (b .filling) v)
 
 -- ---- the law
 
