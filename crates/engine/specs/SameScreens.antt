@@ -85,7 +85,7 @@ pub record SameModels (s t : List ℕ) : Type 0 where
   pub both : {r o : ModelAnswer} → ModelCall s r → ModelCall t o → (GivesModel r × GivesModel o) ⊎ BothNine ModelAnswer.Refused r o
 
 -- The same screens: the same is filled in, the next step from the same known set is the same, refusals included, and the logs have equal bytes.
--- Ruled out: ties settled by the rule that comes first; a cost that counts the helpers between the reasons and the goal.
+-- Ruled out: helpers counted among the choices; the first contradiction that is found taken for the cheapest.
 pub record SameAnswers (s t : List ℕ) : Type 0 where
   pub models : SameModels s t
   pub consequence : {r o : ConsequenceAnswer} → ConsequenceCall s r → ConsequenceCall t o → r ≡ o
