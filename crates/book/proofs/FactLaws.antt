@@ -26,7 +26,7 @@ use Rattle.book.specs.declared.facts.FactsRead.{FactsRead}
 use Rattle.book.specs.declared.facts.FactsRead.the-variants as FactsRead
 use Rattle.records.proofs.CheckLaws.{Good, says-same, checked-first-says, check-says, opened-says, opened-fails, opened-passes}
 use Rattle.records.proofs.LiteralLaws.{masks-more, RisingHead, rising-head}
-use Rattle.book.proofs.ManyLaws.{partFrom, part-from, Whole, Due, due-refused, Walked, walked-more, walked-refused, walked-all}
+use Rattle.book.proofs.ManyLaws.{partFrom, part-from, Whole, Due, due-refused, so-far-refused, so-far-all, Walked, walked-more}
 
 -- ---- one FA record
 
@@ -58,7 +58,7 @@ fact-says u last t {r} {l} e f = go (factAt u last t) refl e
     go (fails n) d g = let z : _≡_ {A = ℕ} 0 1 = cc in absurd (omega arith)
 
 -- a literal over few variables is the signed byte that it is handed over as
-handed : (l : Literal) → variable l ≤ width → toZ w8 (ofZ w8 l) ≡ l
+pub handed : (l : Literal) → variable l ≤ width → toZ w8 (ofZ w8 l) ≡ l
 unfolding variable
 handed (pos v) h = toZ-ofZ {w = w8} {z = pos v} (record { sfits = omega arith })
 handed (negsuc v) h = toZ-ofZ {w = w8} {z = negsuc v} (record { sfits = omega arith })
@@ -127,7 +127,7 @@ module _ (s : List ℕ) (u from : ℕ) where
     module _ {r : FactRead} (a : test ≡ true) (e : r ≡ factAnswer (factAt u last (partFrom s place))) where
       pub fact-refused : {number : ℕ} → r ≡ FactRead.Fails number → FactsRead.Refused number place ≡ factsAnswer (factsLeft s u 0 from)
       unfolding factsAnswer
-      fact-refused f = rw (walked-refused g (due-refused (facts-due s u last place t (g .within) a) (fact-fails _ e f))) refl
+      fact-refused f = rw (so-far-refused (g .so-far) (due-refused (facts-due s u last place t (g .within) a) (fact-fails _ e f))) refl
 
       pub fact-more : {l : Literal} {set′ : LiteralSet} {v : ℕ} → r ≡ FactRead.Says l → u ≤ width → WithLiteral set (toZ w8 (ofZ w8 l)) set′
           → v ≡ variable (toZ w8 (ofZ w8 l)) → FactsWalked set′ v (place + 3)
@@ -142,10 +142,10 @@ module _ (s : List ℕ) (u from : ℕ) where
       unfolding factsAnswer
       end-refused {number} f =
           let over : factsLeft s u last place ≡ refused number place = facts-over s u last place t a ∙ rw (opened-fails _ _ _ e f) refl in
-          rw (walked-refused g over) refl
+          rw (so-far-refused (g .so-far) over) refl
 
       pub end-passed : r ≡ Check.Passes → FactsRead.Says set (place + 2) ≡ factsAnswer (factsLeft s u 0 from)
       unfolding factsAnswer
       end-passed f =
           let over : factsLeft s u last place ≡ value [] (place + 2) = facts-over s u last place t a ∙ rw (opened-passes _ _ _ e f) refl in
-          rw (walked-all g over) (ap (λ l. FactsRead.Says l (place + 2)) (g .kept))
+          rw (so-far-all (g .so-far) over) (ap (λ l. FactsRead.Says l (place + 2)) (g .so-far .kept))

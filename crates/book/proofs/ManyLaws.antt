@@ -51,17 +51,43 @@ module _ {A : Type 0} where
       → rest ≡ refused number place
   due-refused d f = rw (d .due, f) refl
 
-  -- In the row `whole`, after some of its records: those read, what is kept of them, and what is still to be read from a place on.
-  pub record Walked (s : List ℕ) (whole : Read (List A)) (Kept : List A → Type 0) (rest : Read (List A)) (place : ℕ) : Type 0 where
+  -- Of the items `whole`, after some of them: those read, what is kept of them, and what is still to be read.
+  pub record SoFar (whole : Read (List A)) (Kept : List A → Type 0) (rest : Read (List A)) : Type 0 where
     pub done : List A
     pub kept : Kept done
-    pub so-far : whole ≡ prefixed done rest
+    pub same : whole ≡ prefixed done rest
+
+  module _ {whole rest : Read (List A)} {Kept : List A → Type 0} where
+    pub so-far-none : whole ≡ rest → Kept [] → SoFar whole Kept rest
+    so-far-none e k = record { done = []; kept = k; same = e }
+
+    -- one more item is read
+    pub so-far-more : {Kept′ : List A → Type 0} {rest′ : Read (List A)} (a : A) → SoFar whole Kept rest → rest ≡ withItem a rest′
+        → ((done : List A) → Kept done → Kept′ (done ++ (a ∷ []))) → SoFar whole Kept′ rest′
+    so-far-more a g e k =
+        record {
+          done = g .done ++ (a ∷ []);
+          kept = k (g .done) (g .kept);
+          same = g .same ∙ ap (prefixed (g .done)) e ∙ sym (prefixed-snoc (g .done) a _);
+        }
+
+    -- what is still to be read is refused
+    pub so-far-refused : {number end : ℕ} → SoFar whole Kept rest → rest ≡ refused number end → whole ≡ refused number end
+    so-far-refused {number} {end} g e = g .same ∙ ap (prefixed (g .done)) e ∙ prefixed-refused (g .done) number end
+
+    -- nothing is left
+    pub so-far-all : {end : ℕ} (g : SoFar whole Kept rest) → rest ≡ value [] end → whole ≡ value (g .done) end
+    so-far-all {end} g e = g .same ∙ ap (prefixed (g .done)) e ∙ prefixed-value (g .done) end
+
+  -- In the row `whole`, after some of its records, at a place.
+  pub record Walked (s : List ℕ) (whole : Read (List A)) (Kept : List A → Type 0) (rest : Read (List A)) (place : ℕ) : Type 0 where
+    pub so-far : SoFar whole Kept rest
     pub within : place ≤ length s
 
   module _ {s : List ℕ} {whole rest : Read (List A)} {Kept : List A → Type 0} {place : ℕ} where
     -- the row begins
     pub walked-none : whole ≡ rest → Kept [] → place ≤ length s → Walked s whole Kept rest place
-    walked-none e k h = record { done = []; kept = k; so-far = e; within = h }
+    walked-none e k h = record { so-far = so-far-none e k; within = h }
 
     -- a record that is whole lies within the bytes
     pub walked-within : {P : A → Type 0} {len : ℕ} {r : RecordRead A} → Walked s whole Kept rest place → Whole P (partFrom s place) len r
@@ -74,20 +100,7 @@ module _ {A : Type 0} where
         → ((done : List A) → Kept done → Kept′ (done ++ (w .item ∷ []))) → Walked s whole Kept′ (after (w .item) (place + len)) (place + len)
     walked-more {len = len} {after = after} g d w k =
         let step : rest ≡ withItem (w .item) (after (w .item) (place + len)) = rw (d .due, w .said) refl in
-        record {
-          done = g .done ++ (w .item ∷ []);
-          kept = k (g .done) (g .kept);
-          so-far = g .so-far ∙ ap (prefixed (g .done)) step ∙ sym (prefixed-snoc (g .done) (w .item) _);
-          within = walked-within g w;
-        }
-
-    -- what is still to be read is refused
-    pub walked-refused : {number end : ℕ} → Walked s whole Kept rest place → rest ≡ refused number end → whole ≡ refused number end
-    walked-refused {number} {end} g e = g .so-far ∙ ap (prefixed (g .done)) e ∙ prefixed-refused (g .done) number end
-
-    -- the row ends
-    pub walked-all : {end : ℕ} (g : Walked s whole Kept rest place) → rest ≡ value [] end → whole ≡ value (g .done) end
-    walked-all {end} g e = g .so-far ∙ ap (prefixed (g .done)) e ∙ prefixed-value (g .done) end
+        record { so-far = so-far-more (w .item) (g .so-far) step k; within = walked-within g w }
 
 module _ {A : Type 0} (recordAt : ℕ → List ℕ → RecordRead A) (s : List ℕ) (total : ℕ) where
   -- After i of so many records of one kind, what is still to be read.
@@ -119,7 +132,7 @@ module _ {A B : Type 0} (answer : Read (List A) → B) (recordAt : ℕ → List 
     {Kept : List A → Type 0} (g : Walked s (many recordAt s total 1 from) Kept (manyLeft recordAt s total i place) place) where
   pub many-refused : {number : ℕ} → i < total → recordAt (i + 1) (partFrom s place) ≡ fails number
       → answer (refused number place) ≡ answer (many recordAt s total 1 from)
-  many-refused l f = ap answer (sym (walked-refused g (due-refused (many-due recordAt s total i place l) f)))
+  many-refused l f = ap answer (sym (so-far-refused (g .so-far) (due-refused (many-due recordAt s total i place l) f)))
 
-  pub many-all : total ≤ i → answer (value (g .done) place) ≡ answer (many recordAt s total 1 from)
-  many-all l = ap answer (sym (walked-all g (many-over recordAt s total i place l)))
+  pub many-all : total ≤ i → answer (value (g .so-far .done) place) ≡ answer (many recordAt s total 1 from)
+  many-all l = ap answer (sym (so-far-all (g .so-far) (many-over recordAt s total i place l)))

@@ -31,7 +31,7 @@ pub rule-whole : (n : ℕ) (t : List ℕ) {ls : List Literal} {len : ℕ} → ru
 unfolding ruleAt ruleValues
 rule-whole n t {ls} {len} e =
     let o = checked-first-says (opened RL 3 t) (ruleValues n t) e in
-    let most = check-says (leb (byte t 2) maxLiterals) 5 _ (check-says (leb 1 (byte t 2)) 5 _ (o .2) .1) in
+    let most = check-says (leb (byte t 2) maxLiterals) 5 _ (o .2) in
     let all = check-says (leb (3 + byte t 2) (length t)) 1 _ (most .1) in
     let rise = check-says (rising n 0 lits) 6 _ (all .1) in
     let same = says-same (rise .1) in

@@ -20,7 +20,7 @@ module _ {A B : Type 0} where
   then-value (refused n place) next e = let z : _≡_ {A = ℕ} 0 1 = cc in absurd (omega arith)
 
 module _ {A : Type 0} where
-  item-value : (a : A) (m : Read (List A)) {items : List A} {end : ℕ} → withItem a m ≡ value items end
+  pub item-value : (a : A) (m : Read (List A)) {items : List A} {end : ℕ} → withItem a m ≡ value items end
       → (rest : List A) × (m ≡ value rest end) × (a ∷ rest ≡ items)
   item-value a (value rest p) e = (rest, cc, cc)
   item-value a (refused n p) e = let z : _≡_ {A = ℕ} 0 1 = cc in absurd (omega arith)

@@ -19,7 +19,7 @@ use records::header;
 use records::header::HeaderRead;
 
 // Several records in a row: the place after them, or the first refusal.
-enum PlaceAfter {
+pub enum PlaceAfter {
     At(usize),
     Refused { number: u8, place: usize },
 }

@@ -37,7 +37,7 @@ fn member_byte(set: LiteralSet, v: u32) -> u8
 
 // One byte at a place. Every byte of a log is written here, and the next one goes to the place that is answered: so each is
 // written once, in rising order from the first on.
-fn put_byte(out: &mut [u8], at: usize, byte: u8) -> usize
+pub fn put_byte(out: &mut [u8], at: usize, byte: u8) -> usize
     requires { ⌜ at < length (now out) ⌝ }
     ensures { λ r. ⌜ Put (now (out .entry)) at (byte ∷ []) (now (out .exit)) r ⌝ }
 {
@@ -46,7 +46,7 @@ fn put_byte(out: &mut [u8], at: usize, byte: u8) -> usize
 }
 
 // The number of a set's literals, and the literals, rising by variable.
-fn put_list(out: &mut [u8], at: usize, set: LiteralSet) -> usize
+pub fn put_list(out: &mut [u8], at: usize, set: LiteralSet) -> usize
     requires { ⌜ at + length (listBytes (literalsOf (set .yes) (set .no))) ≤ length (now out) ⌝ }
     ensures { λ r. ⌜ Put (now (out .entry)) at (listBytes (literalsOf (set .yes) (set .no))) (now (out .exit)) r ⌝ }
 {
@@ -62,7 +62,7 @@ fn put_list(out: &mut [u8], at: usize, set: LiteralSet) -> usize
 }
 
 // Two bytes: a mark, or a number with the high byte first.
-fn put_two(out: &mut [u8], at: usize, first: u8, second: u8) -> usize
+pub fn put_two(out: &mut [u8], at: usize, first: u8, second: u8) -> usize
     requires { ⌜ at + 2 ≤ length (now out) ⌝ }
     ensures { λ r. ⌜ Put (now (out .entry)) at (first ∷ second ∷ []) (now (out .exit)) r ⌝ }
 {

@@ -1,5 +1,5 @@
 mod DecimalLaws
-mod LeftLaws
+mod FrontLaws
 mod LiteralLaws
 mod LineLaws
 mod FieldLaws

@@ -9,7 +9,7 @@ use Rattle.log_form.specs.Format.{StepRecord}
 use Rattle.printing.specs.Text.{decimal, literalText, literalsText, stepWord, goalWord, fromWord, newWord, costWord, lineEnd, stepText, doneWord}
 use Rattle.printing.specs.Text.{totalWord, doneText, refusedWord, atWord, refusalText}
 use Rattle.printing.proofs.DecimalLaws.{decimal-short}
-use Rattle.printing.proofs.LeftLaws.{Left, left-all, left-as}
+use Rattle.log_form.proofs.LeftLaws.{Left, left-all, left-as}
 
 -- a line of two words and two numbers
 abbrev pub pairParts : List ℕ → ℕ → List ℕ → ℕ → List (List ℕ)

@@ -15,7 +15,7 @@ use Rattle.log_form.proofs.StoreLaws.{put-byte}
 use Rattle.log_form.specs.Contracts.{Put}
 use Rattle.printing.specs.Text.{decimal, literalText, literalsText}
 use Rattle.printing.proofs.DecimalLaws.{decimal-short}
-use Rattle.printing.proofs.LeftLaws.{Left, left-all, left-as, left-part, left-none, part-room}
+use Rattle.log_form.proofs.LeftLaws.{Left, left-all, left-as, left-part, left-none, part-room}
 
 -- a byte below 80 says yes, one from 80 on no
 pub yes-text : (b : ℕ) → b < 128 → literalText (ofByte b) ≡ decimal b

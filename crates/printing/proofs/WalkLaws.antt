@@ -15,7 +15,8 @@ use Rattle.printing.specs.Text.{stepText, doneText, logText}
 use Rattle.printing.specs.Fields.{recordSize, recordIn, totalIn}
 use Rattle.printing.specs.Contracts.{LinePut, Printable, LogPut}
 use Rattle.printing.specs.declared.lines.Line.{Line}
-use Rattle.printing.proofs.LeftLaws.{Left, left-all, left-as, left-part, left-last, part-room, put-front}
+use Rattle.log_form.proofs.LeftLaws.{Left, left-all, left-as, left-part, left-last, part-room}
+use Rattle.printing.proofs.FrontLaws.{put-front}
 use Rattle.printing.proofs.ReadLaws.{StepRead, step-read, EndRead, end-read}
 use Rattle.printing.proofs.LogLaws.{restText, step-text, end-text, no-turns, same-log, text-length}
 

@@ -140,14 +140,13 @@ unfoldable pub rising : ℕ → ℕ → List Literal → Bool
 rising n last [] = true
 rising n last (l ∷ ls) = ltb last (variable l) && leb (variable l) n && rising n (variable l) ls
 
--- RL in a book of n variables: a count, then that many literals.
+-- RL in a book of n variables: a count, 0 included, then that many literals.
 unfoldable pub ruleValues : ℕ → List ℕ → RecordRead (List Literal)
 ruleValues n s =
-    check (leb 1 (byte s 2)) 5
-    (check (leb (byte s 2) maxLiterals) 5
+    check (leb (byte s 2) maxLiterals) 5
     (check (leb (3 + byte s 2) (length s)) 1
     (check (rising n 0 (map ofByte (take (byte s 2) (drop 3 s)))) 6
-    (says (map ofByte (take (byte s 2) (drop 3 s))) (3 + byte s 2)))))
+    (says (map ofByte (take (byte s 2) (drop 3 s))) (3 + byte s 2))))
 
 unfoldable pub ruleAt : ℕ → List ℕ → RecordRead (List Literal)
 ruleAt n s = checkedFirst (opened RL 3 s) (ruleValues n s)

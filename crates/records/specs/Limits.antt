@@ -32,3 +32,7 @@ okSize = 7
 -- The bytes of a log, at most: a step for each choice, and the end.
 abbrev pub maxLog : ℕ
 maxLog = maxChoices * maxStepBytes + okSize
+
+-- The bytes of a book without facts, at most: HD, CS for each choice, RL for each rule with the most literals, EN.
+abbrev pub maxWithoutFacts : ℕ
+maxWithoutFacts = 5 + maxChoices * 7 + maxRules * (3 + maxLiterals) + 2

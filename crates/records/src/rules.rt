@@ -57,16 +57,13 @@ pub fn read_rule(s: &[u8], n: usize) -> RuleRead
     }
 }
 
-// The RL record whose count is there.
+// The RL record whose count is there. A count of 0 is read: no filling obeys such a rule.
 fn rule_values(s: &[u8], n: usize) -> RuleRead
     requires { ⌜ n ≤ width ⌝ }
     requires { ⌜ 3 ≤ length (now s) ⌝ }
     ensures { λ r. ⌜ r ≡ ruleAnswer (ruleValues n (now (s .entry))) ⌝ }
 {
     let count = s[2] as usize;
-    if count < 1 {
-        return RuleRead::Fails(5);
-    }
     if count > Book::MAX_LITERALS {
         return RuleRead::Fails(5);
     }

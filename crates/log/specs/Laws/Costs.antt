@@ -17,8 +17,8 @@ use Rattle.step.specs.Meaning.{setCost}
 use Rattle.step.specs.IsStep.{oppositeOn, oppositeOff}
 use Rattle.step.specs.Laws.Costs.{cost-parts, opposite-cost, opposite-most}
 use Rattle.log_form.specs.Laws.Lists.{each-literal, variable-signed, opposite-literal, members-in, signed, rising-members}
+use Rattle.log_form.specs.Laws.Masks.{mask-in, masks-back}
 use Rattle.log.specs.Demand3.{In, costOfSet}
-use Rattle.log.specs.Laws.Lists.{same-listed, same-unique, mask-in, same-masks}
 
 module _ (p : Problem) where
   -- the cost of a set of its variables
@@ -116,9 +116,7 @@ module _ (p : Problem) where
     list-cost : costBy on off ≡ costOfSet p (literalsOf on off)
     unfolding literalsOf
     list-cost =
-        let same : (says : Bool) → cond says on off ≡ cond says (yesMask (literalsOf on off)) (noMask (literalsOf on off)) =
-        same-unique (same-listed on off a) (same-masks (literalsOf on off) (same-listed on off a .none-zero)) in
-        ap₂ (λ (x : ℕ) (y : ℕ). costBy x y) (same true) (same false)
+        ap₂ (λ (x : ℕ) (y : ℕ). costBy x y) (sym (masks-back on off a true)) (sym (masks-back on off a false))
         ∙ signed-cost (has on) 0 (members (union on off)) (rising-members (union on off))
         (λ v m. member-lt _ (union on off) v (members-in (union on off) v m) (union-lt _ on off on-below off-below))
 

@@ -33,7 +33,8 @@ use Rattle.log.specs.Demand3.{In, Unknown, EachHolds, knownAfter, Demand
 use Rattle.log.specs.Laws.Growth as growth
 use Rattle.log_form.specs.Laws.Reads.{AllFit, InForm, read-written}
 use Rattle.log_form.specs.Laws.Lists.{each-literal, list-length-is, list-rises}
-use Rattle.log.specs.Laws.Lists.{SameLiterals, same-listed, same-masks, no-zero}
+use Rattle.log_form.specs.Laws.Masks.{SameLiterals, same-listed, same-masks}
+use Rattle.log.specs.Laws.Lists.{no-zero}
 use Rattle.log.specs.Laws.OneStep.{filled-bit, bit-filled, goal-bit, choices-below, forced, demand, step-holds, cost-small, step-fits, same-more}
 
 module _ {p : Problem} (w : ProperProblem p) (some : hasModel p ≡ true) where

@@ -33,8 +33,8 @@ use Rattle.log.specs.Demand3.{Forces, Contradicts, costOfSet, In, Unknow
 use Rattle.log.specs.Laws.Growth as growth
 use Rattle.log_form.specs.Laws.Reads.{Fits}
 use Rattle.log_form.specs.Laws.Lists.{each-literal, variable-signed, opposite-literal, list-rises}
-use Rattle.log.specs.Laws.Lists.{SameLiterals, same-listed, same-both, mask-in, same-masks}
-use Rattle.log.specs.Laws.Lists.{holds-keeps, holds-avoids, same-holds, clash, first-holds, holds-first}
+use Rattle.log_form.specs.Laws.Masks.{SameLiterals, same-listed, mask-in, same-masks}
+use Rattle.log.specs.Laws.Lists.{same-both, holds-keeps, holds-avoids, same-holds, clash, first-holds, holds-first}
 use Rattle.log.specs.Laws.Costs.{OverVariables, reasons-cost, opposite-le}
 
 -- ---- over a choice, filled in: by the bit of the literal's sign

@@ -8,7 +8,7 @@ use denote.Ref.{now}
 use Rattle.log_form.proofs.StoreLaws.{put-length}
 use Rattle.printing.specs.Text.{decimal, refusalText}
 use Rattle.printing.proofs.DecimalLaws.{decimal-short}
-use Rattle.printing.proofs.LeftLaws.{put-front}
+use Rattle.printing.proofs.FrontLaws.{put-front}
 use Rattle.printing.proofs.LineLaws.{refusal-length}
 use Rattle.printing.proofs.put_refusal.Statement.{statement}
 use Rattle.printing.proofs.put_refusal.Tie as tie

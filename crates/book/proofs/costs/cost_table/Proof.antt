@@ -40,4 +40,4 @@ cost-table-spec =
     tie.close (tie.spec Inv-loop μ-loop (λ c. walked-none (many-begun _ _ _ _) filled-none (c .before .pre .1)) (λ c. search needs) (λ c. search needs)
     (λ c. search needs) (λ c. search needs) (λ c κs. search needs) (λ c. search needs) returns (λ c. search needs) (λ c. search needs)
     (λ c. search needs) (λ c. search needs) (λ c. search needs) (λ c. search needs) loop-again
-    (λ c. c .before .loop .inv .kept .stored ∙ many-all (tableAnswer (λ cs. cs)) costAt _ _ _ _ _ (c .before .loop .inv) (c .loop-test .left)))
+    (λ c. c .before .loop .inv .so-far .kept .stored ∙ many-all (tableAnswer (λ cs. cs)) costAt _ _ _ _ _ (c .before .loop .inv) (c .loop-test .left)))

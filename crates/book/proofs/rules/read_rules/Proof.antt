@@ -49,7 +49,7 @@ returns-2 : tie.Need-returns-2 Inv-loop μ-loop
 unfolding rulesAnswer
 returns-2 c =
     let g = c .before .loop .inv in
-    rw (g .kept .0 .stored, g .kept .1 .stored) (many-all rulesAnswer (λ k. ruleAt _) _ _ _ _ _ g (c .loop-test .left))
+    rw (g .so-far .kept .0 .stored, g .so-far .kept .1 .stored) (many-all rulesAnswer (λ k. ruleAt _) _ _ _ _ _ g (c .loop-test .left))
 
 pub read-rules-spec : {M : Type 1} → statement M
 read-rules-spec =

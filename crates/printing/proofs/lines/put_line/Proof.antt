@@ -8,7 +8,7 @@ use Rattle.log_form.specs.Format.{StepRecord}
 use Rattle.log_form.proofs.StoreLaws.{put-length}
 use Rattle.printing.specs.Text.{stepText}
 use Rattle.printing.specs.Fields.{ofFields}
-use Rattle.printing.proofs.LeftLaws.{Left, left-part, left-last, part-room}
+use Rattle.log_form.proofs.LeftLaws.{Left, left-part, left-last, part-room}
 use Rattle.printing.proofs.LineLaws.{lineParts, line-left}
 use borrow.Author.Needs.{needs}
 use Rattle.printing.proofs.lines.put_line.Statement.{statement}

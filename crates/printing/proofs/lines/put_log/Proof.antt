@@ -8,7 +8,7 @@ use borrow.Author.Needs.{needs}
 use denote.Ref.{now}
 use Rattle.log_form.specs.Format.{ST, begins}
 use Rattle.log_form.proofs.StoreLaws.{put-length}
-use Rattle.printing.proofs.LeftLaws.{left-length}
+use Rattle.log_form.proofs.LeftLaws.{left-length}
 use Rattle.printing.proofs.WalkLaws.{Walking, tail, walking-none, walking-long, step-fits, step-room, step-within, step-less, walking-more, end-room}
 use Rattle.printing.proofs.WalkLaws.{walking-end}
 use Rattle.printing.proofs.lines.put_log.Statement.{statement}

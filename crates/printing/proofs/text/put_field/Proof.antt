@@ -3,7 +3,7 @@ use borrow.Author.Needs.{needs}
 use denote.Ref.{now}
 use Rattle.log_form.proofs.StoreLaws.{put-append}
 use Rattle.printing.specs.Text.{decimal}
-use Rattle.printing.proofs.LeftLaws.{two-room, two-next}
+use Rattle.log_form.proofs.LeftLaws.{two-room, two-next}
 use Rattle.printing.proofs.text.put_field.Statement.{statement}
 use Rattle.printing.proofs.text.put_field.Tie as tie
 

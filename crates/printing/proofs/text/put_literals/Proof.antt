@@ -2,7 +2,7 @@
 use Prim.Native.Nat.{_-_}
 use native.Mathlib.Omega.{arith}
 use lib.ListN.{length}
-use Rattle.printing.proofs.LeftLaws.{left-length}
+use Rattle.log_form.proofs.LeftLaws.{left-length}
 use Rattle.printing.proofs.LiteralLaws.{LiteralsPut, listing-none, blank-room, literal-room, listing-more, listing-all}
 use Rattle.printing.proofs.text.put_literals.Statement.{statement}
 use Rattle.printing.proofs.text.put_literals.Tie as tie

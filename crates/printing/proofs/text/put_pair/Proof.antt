@@ -5,7 +5,7 @@ use borrow.Author.Needs.{needs}
 use lib.ListN.{drop}
 use denote.Ref.{now}
 use Rattle.printing.specs.Text.{decimal, lineEnd}
-use Rattle.printing.proofs.LeftLaws.{Left, left-part, left-last, part-room}
+use Rattle.log_form.proofs.LeftLaws.{Left, left-part, left-last, part-room}
 use Rattle.printing.proofs.LineLaws.{pairParts, pair-left}
 use Rattle.printing.proofs.text.put_pair.Statement.{statement}
 use Rattle.printing.proofs.text.put_pair.Tie as tie

@@ -2,7 +2,8 @@
 use Prim.Native.Nat.{_-_}
 use native.Mathlib.Omega.{arith}
 use lib.ListN.{length}
-use Rattle.printing.proofs.LeftLaws.{left-length, WordPut, copying-none, copying-room, copying-more, copying-all}
+use Rattle.log_form.proofs.LeftLaws.{left-length}
+use Rattle.printing.proofs.FrontLaws.{WordPut, copying-none, copying-room, copying-more, copying-all}
 use Rattle.printing.proofs.text.put_word.Statement.{statement}
 use Rattle.printing.proofs.text.put_word.Tie as tie
 

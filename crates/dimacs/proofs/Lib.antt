@@ -1,0 +1,14 @@
+pub mod ByteLaws
+pub mod ReadLaws
+pub mod NumberLaws
+pub mod SignedLaws
+pub mod HeadLaws
+pub mod ClauseLaws
+pub mod KeptLaws
+pub mod WritingLaws
+pub mod TextLaws
+pub mod SameModels
+pub mod Good
+pub mod ReadBack
+pub mod RoundTrip
+pub mod ImportLaws
