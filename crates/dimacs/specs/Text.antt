@@ -10,6 +10,7 @@ use lib.ListN.{length, take, drop}
 use Rattle.sets.specs.Sets.{disjoint}
 use Rattle.literals.specs.Literal.{Literal, variable, literalsOf}
 use Rattle.literals.specs.Truth.{yesMask, noMask}
+use Rattle.sat.specs.Meaning.{obeysRules}
 use Rattle.records.specs.Limits.{maxVariables, maxRules, maxLiterals}
 use Rattle.records.specs.Format.{Read, value, refused, andThen, withItem, byte}
 
@@ -19,6 +20,10 @@ use Rattle.records.specs.Format.{Read, value, refused, andThen, withItem, byte}
 pub record Formula : Type 0 where
   pub variables : ℕ
   pub clauses : List (List Literal)
+
+-- A filling satisfies it if it makes a literal of every clause true.
+unfoldable pub satisfies : ℕ → Formula → Bool
+satisfies g f = obeysRules g (f .clauses)
 
 -- A clause that holds a literal and its opposite is dropped: some variable that it says yes of it also says no of.
 unfoldable pub isDropped : List Literal → Bool

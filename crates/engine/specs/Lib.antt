@@ -1,5 +1,6 @@
 pub mod Calls
 pub mod Contracts
 pub mod Orders
+pub mod Dimacs
 pub mod SameScreens
 pub mod RetypedOrder

@@ -6,16 +6,18 @@ ghost use Rattle.records.specs.Limits.{maxLog};
 ghost use Rattle.records.specs.Format.{readBook};
 ghost use Rattle.book.specs.Answer.{bookAnswer, tableAnswer};
 ghost use Rattle.log.specs.Meaning.{runOf, logOf};
-ghost use Rattle.engine.specs.Calls.{ModelCall, ConsequenceCall, StepCall, between, stepSays, LogCall, logged, LoggedAs};
-ghost use Rattle.engine.specs.Contracts.{Searchable, FoundModel, FoundForced, Steppable, stepIn, stepQuestion};
-ghost use Rattle.engine.specs.Contracts.{StepReady, Loggable, LogReady, logIn, logQuestion};
+ghost use Rattle.engine.specs.Calls.{ModelCall, ConsequenceCall, StepCall, LogCall, logged, LoggedAs};
+ghost use Rattle.engine.specs.Contracts.{Searchable, FoundModel, FoundForced, Loggable, LogReady, logIn, logQuestion};
+ghost use Rattle.engine.specs.Dimacs.{DimacsCall};
+mod steps;
+
 use book::Book;
 use book::Reading;
 use consequence::Consequence;
+use dimacs::Imported;
 use literals::LiteralSet;
 use problem::MaskedProblem;
 use sat::Partial;
-use step::Next;
 
 // A model of the book, or the refusal.
 pub enum ModelAnswer {
@@ -64,6 +66,14 @@ pub fn read_costs(s: &[u8]) -> [[u16; 2]; Book::MAX_CHOICES]
     ensures { λ r. ⌜ r ≡ tableAnswer (λ b. b .costs) (readBook (now (s .entry))) ⌝ }
 {
     book::read_costs(s)
+}
+
+// Rules from a DIMACS CNF text: the bytes of a book at the front of a lent buffer, and their length, or the refusal.
+// Ruled out: a book with other models than the text; a refusal placed at the byte after a number that is too large.
+pub fn read_dimacs(text: &[u8], buffer: &mut [u8]) -> Imported
+    ensures { λ r. ⌜ DimacsCall (now (text .entry)) (now (buffer .entry)) (now (buffer .exit)) r ⌝ }
+{
+    dimacs::import(text, buffer)
 }
 
 // One model of the book. Ruled out: refusal 9 for every book; a filling that obeys the rules and denies a given fact.
@@ -155,80 +165,8 @@ pub fn next_step(s: &[u8], known_yes: u64, known_no: u64) -> StepAnswer
                 yes: known_yes,
                 no: known_no,
             };
-            step_of(problem::of_book(b), costs, known)
+            steps::step_of(problem::of_book(b), costs, known)
         }
-    }
-}
-
-// Whether a known set lies between the given facts and the consequence.
-fn lies_between(facts: LiteralSet, known: LiteralSet, forced: LiteralSet) -> bool
-    ensures { λ r. ⌜ r ≡ between facts known forced ⌝ }
-{
-    if !sets::subset(facts.yes, known.yes) {
-        return false;
-    }
-    if !sets::subset(facts.no, known.no) {
-        return false;
-    }
-    if !sets::subset(known.yes, forced.yes) {
-        return false;
-    }
-    sets::subset(known.no, forced.no)
-}
-
-// The next step of a problem, or refusal 9 or 10.
-fn step_of(p: MaskedProblem, costs: [[u16; 2]; Book::MAX_CHOICES], known: LiteralSet) -> StepAnswer
-    requires { ⌜ Steppable p costs ⌝ }
-    ensures { λ r. ⌜ r ≡ stepIn p costs known ⌝ }
-{
-    match propagate(p) {
-        ConsequenceAnswer::Refused { number, place } => StepAnswer::Refused { number, place },
-        ConsequenceAnswer::Forced(forced) => {
-            if !lies_between(p.facts, known, forced) {
-                return StepAnswer::Refused {
-                    number: 10,
-                    place: 0,
-                };
-            }
-            take_step(p, costs, forced, known)
-        }
-    }
-}
-
-// The step from a known set that lies between the given facts and the consequence.
-fn take_step(
-    p: MaskedProblem,
-    costs: [[u16; 2]; Book::MAX_CHOICES],
-    forced: LiteralSet,
-    known: LiteralSet,
-) -> StepAnswer
-    requires { ⌜ StepReady p costs forced known ⌝ }
-    ensures { λ r. ⌜ r ≡ stepSays (stepQuestion p costs forced known) ⌝ }
-{
-    let yes = p.yes;
-    let no = p.no;
-    let rules = p.rules;
-    match step::next_step(
-        p.variables,
-        &yes[..rules],
-        &no[..rules],
-        p.choices,
-        costs,
-        forced,
-        known,
-    ) {
-        Next::Step {
-            goal,
-            reasons,
-            new,
-            cost,
-        } => StepAnswer::Step {
-            goal,
-            reasons,
-            new,
-            cost,
-        },
-        Next::NothingLeft => StepAnswer::NothingLeft,
     }
 }
 

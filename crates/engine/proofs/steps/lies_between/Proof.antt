@@ -1,9 +1,9 @@
--- `engine::lies_between` meets its contract. Assumes nothing.
+-- `engine::steps::lies_between` meets its contract. Assumes nothing.
 use borrow.Author.Needs.{needs}
 use Rattle.engine.specs.Calls.{between}
 use Rattle.engine.proofs.StepLaws.{flag-no, flag-yes}
-use Rattle.engine.proofs.lies_between.Statement.{statement}
-use Rattle.engine.proofs.lies_between.Tie as tie
+use Rattle.engine.proofs.steps.lies_between.Statement.{statement}
+use Rattle.engine.proofs.steps.lies_between.Tie as tie
 
 returns : tie.Need-returns
 unfolding between

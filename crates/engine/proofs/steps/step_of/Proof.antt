@@ -1,4 +1,4 @@
--- `engine::step_of` meets its contract. Assumes nothing.
+-- `engine::steps::step_of` meets its contract. Assumes nothing.
 use mathlib.Core.Path.{_≡_, refl, ap₂}
 use mathlib.Core.Bool.{false}
 use borrow.Author.Needs.{needs}
@@ -7,8 +7,8 @@ use Rattle.consequence.specs.Meaning.{contradicts}
 use Rattle.engine.specs.Contracts.{theoryIn, forcedIn, stepIn}
 use Rattle.engine.specs.declared.StepAnswer.the-variants as StepAnswer
 use Rattle.engine.proofs.StepLaws.{found-nine, found-set, stepping, flag-no, flag-yes}
-use Rattle.engine.proofs.step_of.Statement.{statement}
-use Rattle.engine.proofs.step_of.Tie as tie
+use Rattle.engine.proofs.steps.step_of.Statement.{statement}
+use Rattle.engine.proofs.steps.step_of.Tie as tie
 
 -- what the given facts force, and where the known set lies
 abbrev problem : tie.After-known-told2 → MaskedProblem

@@ -1,11 +1,11 @@
--- `engine::take_step` meets its contract. Assumes nothing.
+-- `engine::steps::take_step` meets its contract. Assumes nothing.
 use borrow.Author.Needs.{needs}
 use mir.Syntax.{w8}
 use mir.Facts.{toZ-ofZ}
 use Rattle.engine.proofs.ProblemLaws.{rules-laws}
 use Rattle.engine.proofs.StepLaws.{says-step, says-nothing}
-use Rattle.engine.proofs.take_step.Statement.{statement}
-use Rattle.engine.proofs.take_step.Tie as tie
+use Rattle.engine.proofs.steps.take_step.Statement.{statement}
+use Rattle.engine.proofs.steps.take_step.Tie as tie
 
 pub take-step-spec : {M : Type 1} → statement M
 take-step-spec =

@@ -1,0 +1,66 @@
+-- What stands in the buffer after a DIMACS CNF text was taken.
+-- Assumes nothing.
+use mathlib.Core.Path.{_≡_, refl, ap, _∙_}
+use mathlib.Core.Bool.{Bool, true, false, cond, and-true}
+use mathlib.Core.List.{List, _++_}
+use Prim.Native.Nat.{ℕ, _≤_}
+use native.Mathlib.Omega.{arith}
+use lib.Dec.{ltb}
+use lib.ListN.{length, take, drop}
+use lib.Seq.{take-at}
+use Rattle.literals.specs.Truth.{allHold}
+use Rattle.records.specs.Limits.{maxWithoutFacts}
+use Rattle.records.specs.Format.{Read, value, refused}
+use Rattle.sat.specs.Meaning.{isModel}
+use Rattle.problem.specs.Problem.{problemOf}
+use Rattle.consequence.specs.Meaning.{models}
+use Rattle.dimacs.specs.Text.{Formula, satisfies, formulaOf}
+use Rattle.dimacs.specs.Import.{bookOf, bookBytes, imported, importAnswer, bufferAfter, ImportedAs}
+use Rattle.dimacs.specs.declared.Imported.{Imported}
+use Rattle.dimacs.specs.declared.Imported.the-variants as Imported
+use Rattle.dimacs.proofs.Good.{GoodFormula, formula-good}
+use Rattle.dimacs.proofs.RoundTrip.{book-read, book-short}
+use Rattle.dimacs.proofs.SameModels.{obeys-kept}
+use Rattle.engine.specs.Dimacs.{BookOf, Leaves, DimacsCall}
+
+-- a filling is a model of the book exactly where it satisfies the formula: there is no fact to make true
+same-models : (f : Formula) (g : ℕ) → models (problemOf (bookOf f)) g ≡ satisfies g f
+unfolding models problemOf bookOf isModel allHold satisfies
+same-models f g = and-true _ ∙ obeys-kept g (f .clauses)
+
+-- the book of a good formula
+good-book : {f : Formula} → GoodFormula f → BookOf f (bookBytes (bookOf f)) (length (bookBytes (bookOf f)))
+unfolding bookOf
+good-book {f} w = record {
+  book = bookOf f;
+  reads = book-read w;
+  short = book-short w;
+  same-variables = refl;
+  lesser = refl;
+  every-cost = refl;
+  no-facts = refl;
+  same-models = λ g h. same-models f g;
+}
+
+-- a text that is taken is read from a buffer that is long enough
+taken : (room : ℕ) (s : List ℕ) {f : Formula} {end : ℕ} → imported room s ≡ value f end → formulaOf s ≡ value f end
+unfolding imported
+taken room s {f} {end} e = go (ltb room maxWithoutFacts) e
+  where
+    go : (b : Bool) → cond b (refused 8 0) (formulaOf s) ≡ value f end → formulaOf s ≡ value f end
+    go true g = let z : _≡_ {A = ℕ} 0 1 = cc in absurd (omega arith)
+    go false g = g
+
+-- the contract, from what the call answers by equation
+pub dimacs-call : (s before : List ℕ) {after : List ℕ} {r : Imported} → ImportedAs (imported (length before) s) before after r
+    → DimacsCall s before after r
+unfolding importAnswer bufferAfter
+dimacs-call s before {after} {r} w = record { said = w; leaves = go (imported (length before) s) refl w }
+  where
+    go : (m : Read Formula) → imported (length before) s ≡ m → ImportedAs m before after r → Leaves m after r
+    go (refused number place) e k = k .answered
+    go (value f end) e k =
+        let good = good-book (formula-good s (taken (length before) s e)) in
+        let front : take (length (bookBytes (bookOf f))) after ≡ bookBytes (bookOf f) =
+            ap (take (length (bookBytes (bookOf f)))) (k .buffer) ∙ take-at (bookBytes (bookOf f)) (drop (length (bookBytes (bookOf f))) before) _ refl in
+        rw (k .answered) (rw front good)
