@@ -1,5 +1,13 @@
-// Writes the text that is printed for a book's bytes to standard output.
+// Writes to standard output what is printed for a book's bytes, and the book that is made of a DIMACS CNF text.
+use dimacs::Imported;
 use printing::Printed;
+use records::Book;
+
+// The bytes of a DIMACS CNF text that are read, at most.
+const MAX_INPUT: usize = 65536;
+
+// The bytes of the line of a refusal, at most.
+const MAX_LINE: usize = 36;
 
 // The text of the log's lines or of the refusal. It always fits: the buffer has room for the longest.
 pub fn show(s: &[u8]) {
@@ -18,4 +26,29 @@ pub fn show_file(fd: i32) {
     let mut space = io::buffer();
     let size = io::read_full(fd, &mut space);
     show(&space[..size]);
+}
+
+// The line of a refusal.
+fn show_refusal(number: u8, place: usize) {
+    let mut line = [0u8; MAX_LINE];
+    let size = printing::put_refusal(&mut line, number, place);
+    io::write_all(libc::STDOUT_FILENO, &line[..size]);
+}
+
+// The bytes of the book that is made of a DIMACS CNF text, or only the refusal.
+pub fn convert(text: &[u8]) {
+    let mut book = [0u8; Book::MAX_WITHOUT_FACTS];
+    match engine::read_dimacs(text, &mut book) {
+        Imported::Written(size) => {
+            io::write_all(libc::STDOUT_FILENO, &book[..size]);
+        }
+        Imported::Refused { number, place } => show_refusal(number, place),
+    }
+}
+
+// Reads the first 65,536 bytes at most of an open file and converts them: a longer file is answered as though it ended there.
+pub fn convert_file(fd: i32) {
+    let mut space = [0u8; MAX_INPUT];
+    let size = io::read_full(fd, &mut space);
+    convert(&space[..size]);
 }

@@ -1,3 +1,5 @@
 pub mod Text
 pub mod Import
 pub mod Contracts
+pub mod Ascii
+pub mod Rows

@@ -62,5 +62,13 @@ dimacs-call s before {after} {r} w = record { said = w; leaves = go (imported (l
     go (value f end) e k =
         let good = good-book (formula-good s (taken (length before) s e)) in
         let front : take (length (bookBytes (bookOf f))) after ≡ bookBytes (bookOf f) =
-            ap (take (length (bookBytes (bookOf f)))) (k .buffer) ∙ take-at (bookBytes (bookOf f)) (drop (length (bookBytes (bookOf f))) before) _ refl in
+        ap (take (length (bookBytes (bookOf f)))) (k .buffer) ∙ take-at (bookBytes (bookOf f)) (drop (length (bookBytes (bookOf f))) before) _ refl in
         rw (k .answered) (rw front good)
+
+-- the book that was written is short
+pub written-short : {s before after : List ℕ} {r : Imported} {size : ℕ} → DimacsCall s before after r → r ≡ Imported.Written size → size ≤ maxWithoutFacts
+written-short {s} {before} {after} {r} {size} w e = go (imported (length before) s) (rw e at (w .leaves))
+  where
+    go : (m : Read Formula) → Leaves m after (Imported.Written size) → size ≤ maxWithoutFacts
+    go (value f end) k = k .short
+    go (refused number place) k = let z : _≡_ {A = ℕ} 0 1 = cc in absurd (omega arith)

@@ -2,6 +2,6 @@ mod NineLaws
 mod ProblemLaws
 mod AnswerLaws
 mod StepLaws
-mod DimacsLaws
+pub mod DimacsLaws
 pub mod LogLaws
 pub mod SameScreens

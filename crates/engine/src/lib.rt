@@ -9,6 +9,7 @@ ghost use Rattle.log.specs.Meaning.{runOf, logOf};
 ghost use Rattle.engine.specs.Calls.{ModelCall, ConsequenceCall, StepCall, LogCall, logged, LoggedAs};
 ghost use Rattle.engine.specs.Contracts.{Searchable, FoundModel, FoundForced, Loggable, LogReady, logIn, logQuestion};
 ghost use Rattle.engine.specs.Dimacs.{DimacsCall};
+
 mod steps;
 
 use book::Book;

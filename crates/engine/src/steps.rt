@@ -26,7 +26,11 @@ fn lies_between(facts: LiteralSet, known: LiteralSet, forced: LiteralSet) -> boo
 }
 
 // The next step of a problem, or refusal 9 or 10.
-pub fn step_of(p: MaskedProblem, costs: [[u16; 2]; Book::MAX_CHOICES], known: LiteralSet) -> StepAnswer
+pub fn step_of(
+    p: MaskedProblem,
+    costs: [[u16; 2]; Book::MAX_CHOICES],
+    known: LiteralSet,
+) -> StepAnswer
     requires { ⌜ Steppable p costs ⌝ }
     ensures { λ r. ⌜ r ≡ stepIn p costs known ⌝ }
 {

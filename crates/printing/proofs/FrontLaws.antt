@@ -1,12 +1,12 @@
 -- What is put from the first byte on, and a word that is put byte by byte.
 -- Assumes nothing.
-use mathlib.Core.Path.{refl, ap, _∙_}
+use mathlib.Core.Path.{_≡_, refl, ap, _∙_}
 use mathlib.Core.List.{List, [], _∷_, _++_}
 use Prim.Native.Nat.{ℕ, _+_, _≤_, _<_}
 use native.Mathlib.Nat.{add-zero, zero-add}
 use native.Mathlib.Numerals.{add-one}
 use native.Mathlib.Omega.{arith}
-use lib.ListN.{length, set, drop, getD, drop-of-length-le}
+use lib.ListN.{length, set, drop, getD, length-append, drop-of-length-le}
 use lib.Seq.{drop-cons, sets-eq}
 use Rattle.log_form.proofs.StoreLaws.{put-byte}
 use Rattle.log_form.proofs.LeftLaws.{Left, left-all, left-as, left-part, left-none, part-room}
@@ -19,6 +19,10 @@ put-front {text} {a} p h = record {
   stands = p .stored ∙ sets-eq text a 0 (omega arith) ∙ ap (λ k. text ++ drop k a) (zero-add (length text));
   length-is = p .place ∙ zero-add (length text);
 }
+
+-- it fits the buffer
+pub front-fits : {text before after : List ℕ} {r : ℕ} → Front text before after r → r ≤ length after
+front-fits {text} {before} f = omega (arith, f .length-is, simp length-append at (ap length (f .stands)))
 
 -- ---- a word, byte by byte
 

@@ -1,5 +1,5 @@
 mod DecimalLaws
-mod FrontLaws
+pub mod FrontLaws
 mod LiteralLaws
 mod LineLaws
 mod FieldLaws

@@ -40,7 +40,7 @@ pub fn print(s: &[u8], out: &mut [u8]) -> Printed
 }
 
 // The one line of a refusal: at most 8 + 3 + 4 + 20 + 1 bytes.
-fn put_refusal(out: &mut [u8], number: u8, place: usize) -> usize
+pub fn put_refusal(out: &mut [u8], number: u8, place: usize) -> usize
     requires { ⌜ 36 ≤ length (now out) ⌝ }
     ensures { λ r. ⌜ Front (refusalText number place) (now (out .entry)) (now (out .exit)) r ⌝ }
 {

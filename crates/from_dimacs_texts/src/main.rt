@@ -1,0 +1,26 @@
+// `from_dimacs` on stored texts: each text's name, and what the function that `from_dimacs` calls writes for it.
+
+// The text in a file of the folder that the program runs in.
+fn text(path: &[u8]) {
+    io::write_all(libc::STDOUT_FILENO, path);
+    io::write_all(libc::STDOUT_FILENO, b":\n");
+    let fd = os::open_read(path);
+    if fd < 0 {
+        io::write_all(libc::STDOUT_FILENO, b"no such file\n");
+        return;
+    }
+    console::convert_file(fd);
+    libc::close(fd);
+}
+
+// Texts that are refused, with 12 and with 13; then a book with lines ended by CR LF, and 70,000 bytes of which the first 65,536 are of the form.
+fn main() {
+    text(b"texts/empty.cnf");
+    text(b"texts/no_closing_zero.cnf");
+    text(b"texts/number_too_large.cnf");
+    text(b"texts/nine_literals.cnf");
+    text(b"texts/cr_lf.cnf");
+    io::write_all(libc::STDOUT_FILENO, b"\n");
+    text(b"texts/long.cnf");
+    io::write_all(libc::STDOUT_FILENO, b"\n");
+}
