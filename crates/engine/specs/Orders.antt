@@ -13,6 +13,7 @@ use Rattle.records.specs.Format.{marked, pair, isCost, opened, rising, headerVa
 use Rattle.records.specs.Format.{factAt, atFact, endAt, many, factsFrom, fromRules, Read, OrderBook, readBook}
 use Rattle.book.specs.Answer.{table, padded}
 use Rattle.book.specs.Orders.{order-a, order-b, order-c, order-d, order-e, order-f, order-g, order-h, order-i, order-j}
+use Rattle.book.specs.Orders.{order-empty-rule, order-nine-literals}
 use Rattle.sat.specs.Meaning.{everyUnder, everyFilling, someFilling, obeysRules, isModel}
 use Rattle.problem.specs.Problem.{problemOf, costOf}
 use Rattle.consequence.specs.Meaning.{models, hasModel, follows, collect, yesConsequence, noConsequence, theoryOf, obeying, contradicts, forcesYes}
@@ -78,6 +79,10 @@ orders =
     ∷ refuses order-j 6 12
     ∷ []
 
+-- A rule with no literals: no filling obeys it (document 02, E2). A count of 9 is refused in its record.
+unfoldable pub countOrders : List OrderRow
+countOrders = refuses order-empty-rule 9 0 ∷ refuses order-nine-literals 5 16 ∷ []
+
 -- What the meanings say of an order's bytes, with a buffer of 547 bytes.
 unfoldable pub meant : List ℕ → OrderRow
 meant s =
@@ -93,6 +98,10 @@ unfolding orders meant computed readAndPosed order-a order-b order-c order-d ord
     withModel logOutcome logAnswer bufferAfter runFor runOf runFrom withNew logBytes costsWritten okBytes recordsBytes recordBytes listBytes
     literalsOf twoBytes fourBytes byteOf members membersBelow membersFrom ones
 orders-agree = refl
+
+pub count-orders-agree : map (λ (r : OrderRow). meant (r .bytes)) countOrders ≡ countOrders
+unfolding countOrders meant readAndPosed order-empty-rule order-nine-literals consequenceAnswer withModel logOutcome logAnswer bufferAfter
+count-orders-agree = refl
 
 -- ---- single steps
 

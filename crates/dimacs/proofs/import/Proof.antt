@@ -1,5 +1,6 @@
 -- `dimacs::import` meets its contract. Assumes nothing.
 use mathlib.Core.Path.{sym}
+use native.Mathlib.Omega.{arith}
 use borrow.Author.Needs.{needs}
 use lib.Seq.{length-take-le}
 use denote.Ref.{now}
@@ -14,7 +15,7 @@ given c = handed _ (c .before .before .read-text .ensures) (c .enum-told .given 
 
 pub import-spec : {M : Type 1} → statement M
 import-spec =
-    tie.close (tie.spec (λ c. import-short _ _ (c .if1 .taken)) (λ c κs. search needs) (λ c. search needs) (λ c. search needs)
+    tie.close (tie.spec (λ c. import-short _ _ (omega (arith, c .if1 .taken))) (λ c κs. search needs) (λ c. search needs) (λ c. search needs)
     (λ c. search (needs, given (c .before .before .before) .yes-room))
     (λ c. sym (length-take-le _ _ (given (c .before .before .before .before) .yes-room)))
     (λ c. search (needs, given (c .before .before .before .before) .no-room))
