@@ -29,6 +29,6 @@ readings =
     ∷ []
 
 pub readings-agree : map (λ (r : OrderMeaning). readBook (r .bytes)) readings ≡ map (λ (r : OrderMeaning). r .meaning) readings
-unfolding readings order-a order-j order-empty-rule order-nine-literals readBook fromRules factsFrom many endAt atFact factAt factValues ruleAt ruleValues costAt costValues
-    headerAt headerValues rising opened isCost pair marked variable ofByte
+unfolding readings order-a order-j order-empty-rule order-nine-literals readBook fromRules factsFrom many endAt atFact factAt factValues ruleAt
+    ruleValues costAt costValues headerAt headerValues rising opened isCost pair marked variable ofByte
 readings-agree = refl

@@ -11,7 +11,7 @@ use lib.Seq.{take-at}
 use Rattle.literals.specs.Literal.{Literal}
 use Rattle.literals.specs.Truth.{yesMask, noMask}
 use Rattle.records.specs.Limits.{maxVariables, maxRules, maxWithoutFacts}
-use Rattle.records.specs.Format.{value, refused}
+use Rattle.records.specs.Format.{value}
 use Rattle.book.specs.Answer.{padded}
 use Rattle.book.specs.declared.PlaceAfter.the-variants as PlaceAfter
 use Rattle.log_form.specs.Contracts.{Put}
@@ -96,7 +96,8 @@ module _ (s : List ℕ) {r : TextRead} (e : r ≡ textAnswer (formulaOf s)) {p :
             no-room = rw q (array-room noMask (keptOf (g .clauses)));
             few-rules = rw (same, length-map (keptOf (g .clauses)) yesMask) (omega (arith, good .few-clauses));
             paired = rw (same, others, length-map (keptOf (g .clauses)) yesMask, length-map (keptOf (g .clauses)) noMask) refl;
-            bytes = rw (same, others) (ap (λ x. writtenBytes (x .variables) (map yesMask (keptOf (g .clauses))) (map noMask (keptOf (g .clauses)))) q ∙ book-put g);
+            bytes = rw (same, others)
+                (ap (λ x. writtenBytes (x .variables) (map yesMask (keptOf (g .clauses))) (map noMask (keptOf (g .clauses)))) q ∙ book-put g);
           }
 
 module _ (s before : List ℕ) (h : maxWithoutFacts ≤ length before) {r : TextRead} {p : ℕ} (w : Handed s r p) where

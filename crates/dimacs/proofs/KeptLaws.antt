@@ -3,7 +3,7 @@
 use mathlib.Core.Path.{_≡_, refl, sym, ap, _∙_}
 use mathlib.Core.Bool.{Bool, true, false, cond}
 use mathlib.Core.List.{List, [], _∷_, _++_}
-use Prim.Native.Nat.{ℕ, zero, suc, _+_, _-_, _≤_, _<_}
+use Prim.Native.Nat.{ℕ, suc, _+_, _-_, _≤_, _<_}
 use native.Mathlib.Nat.{sub-zero}
 use native.Mathlib.Omega.{arith}
 use lib.ListN.{length, set, replicate, length-append}
@@ -11,7 +11,7 @@ use Rattle.literals.specs.Literal.{Literal}
 use Rattle.literals.specs.Truth.{yesMask, noMask}
 use Rattle.literals.specs.declared.LiteralSet.{LiteralSet}
 use Rattle.records.specs.Limits.{maxRules}
-use Rattle.records.specs.Format.{Read, value, refused, andThen, withItem}
+use Rattle.records.specs.Format.{Read, value, refused, withItem}
 use Rattle.records.specs.Contracts.{masks}
 use Rattle.book.proofs.ManyLaws.{SoFar, so-far-none, so-far-more, so-far-refused, so-far-all}
 use Rattle.book.proofs.PaddedLaws.{Filled, filled-none, filled-more}

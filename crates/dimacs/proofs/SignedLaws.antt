@@ -1,15 +1,14 @@
 -- Numbers of a clause: literals and the closing 0.
 -- Assumes nothing.
-use mathlib.Core.Path.{_≡_, refl, sym, ap, _∙_}
+use mathlib.Core.Path.{_≡_, refl}
 use mathlib.Core.Bool.{Bool, true, false, cond}
 use mathlib.Core.List.{List}
-use Prim.Native.Nat.{ℕ, zero, suc, _+_, _-_, _%_, _≤_, _<_}
+use Prim.Native.Nat.{ℕ, zero, suc, _+_, _-_, _%_, _≤_}
 use native.Mathlib.Numerals.{add-one}
 use native.Mathlib.Omega.{arith}
 use borrow.Author.Tests.{leb-true, lt-ltb, le-ltb}
 use lib.Dec.{leb}
 use lib.IntN.{pos}
-use lib.ListN.{length}
 use Rattle.literals.specs.Literal.{ofByte}
 use Rattle.records.specs.Limits.{maxVariables}
 use Rattle.records.specs.Format.{Read, value, refused, andThen}

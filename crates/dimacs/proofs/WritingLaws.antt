@@ -1,8 +1,8 @@
 -- The bytes of the book, part by part.
 -- Assumes nothing.
-use mathlib.Core.Path.{_≡_, refl, sym, ap, ap₂, _∙_}
+use mathlib.Core.Path.{_≡_, refl, sym, ap, _∙_}
 use mathlib.Core.List.{List, [], _∷_, _++_, map, append-assoc, append-nil}
-use Prim.Native.Nat.{ℕ, zero, suc, _+_, _-_, _≤_, _<_}
+use Prim.Native.Nat.{ℕ, suc, _+_, _-_, _≤_, _<_}
 use native.Mathlib.Nat.{sub-zero}
 use native.Mathlib.Numerals.{add-one}
 use native.Mathlib.Omega.{arith}
@@ -14,7 +14,7 @@ use Rattle.literals.specs.declared.LiteralSet.{LiteralSet}
 use Rattle.records.specs.Format.{HD, CS, RL, EN}
 use Rattle.log_form.specs.Format.{twoBytes, listBytes}
 use Rattle.log_form.specs.Contracts.{Put}
-use Rattle.log_form.proofs.LeftLaws.{joined, Left, left-all, left-as, left-part, left-none, left-length, part-room}
+use Rattle.log_form.proofs.LeftLaws.{joined, Left, left-all, left-as, left-part, left-none, part-room}
 use Rattle.dimacs.specs.Text.{ruleOf}
 use Rattle.dimacs.specs.Import.{choicesOf, costBytes, costsBytes, ruleBytes, rulesBytes}
 use Rattle.dimacs.specs.Contracts.{setRule, setRules, headBytes, writtenBytes}

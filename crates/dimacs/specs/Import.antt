@@ -1,6 +1,6 @@
 -- The book that is made of a DIMACS CNF text (document 02, E2): what it says, its bytes, and what the call answers for any text and any buffer.
 use mathlib.Core.Path.{_≡_}
-use mathlib.Core.Bool.{Bool, true, false, cond}
+use mathlib.Core.Bool.{cond}
 use mathlib.Core.List.{List, [], _∷_, _++_, map}
 use Prim.Native.Nat.{ℕ, zero, suc, min}
 use lib.Dec.{ltb}

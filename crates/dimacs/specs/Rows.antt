@@ -11,9 +11,9 @@ use Rattle.literals.specs.Truth.{yesBit, noBit, yesMask, noMask}
 use Rattle.records.specs.Format.{Read, value, refused}
 use Rattle.log_form.specs.Format.{twoBytes, listBytes}
 use Rattle.dimacs.specs.Ascii.{ascii}
-use Rattle.dimacs.specs.Text.{Formula, isDropped, ruleOf, isBlank, isLineEnd, isGap, isDigit, isFirstDigit, run, numeral, stands, after, oneOrMore, word, line}
-use Rattle.dimacs.specs.Text.{comments, number, numberUpTo, limited, signed, nextSigned, literalsFrom, clauseFrom, clausesFrom, textEnds}
-use Rattle.dimacs.specs.Text.{countFrom, countsFrom, wordAndBlanks, headOf, bodyFrom, formulaOf}
+use Rattle.dimacs.specs.Text.{Formula, isDropped, ruleOf, isBlank, isLineEnd, isGap, isDigit, isFirstDigit, run, numeral, stands, after}
+use Rattle.dimacs.specs.Text.{oneOrMore, word, line, comments, number, numberUpTo, limited, signed, nextSigned, literalsFrom, clauseFrom}
+use Rattle.dimacs.specs.Text.{clausesFrom, textEnds, countFrom, countsFrom, wordAndBlanks, headOf, bodyFrom, formulaOf}
 use Rattle.dimacs.specs.Import.{keptOf, rulesOf, bookOf, costBytes, costsBytes, ruleBytes, rulesBytes, bookBytes, imported}
 
 -- ---- what texts mean

@@ -1,7 +1,7 @@
 -- What a DIMACS CNF text means (document 01, "DIMACS CNF text"; document 02, E2): V and the clauses as the file has them, or the refusal with its number
 -- and place. It follows document 01's sentences. Where two checks could fail, the one that is met first in the text decides: `andThen` looks at nothing
 -- after a refusal.
-use mathlib.Core.Bool.{Bool, true, cond, not, _&&_, _||_}
+use mathlib.Core.Bool.{Bool, cond, not, _&&_, _||_}
 use mathlib.Core.List.{List, [], _∷_}
 use Prim.Native.Nat.{ℕ, zero, suc, _+_, _-_, _*_}
 use lib.Dec.{leb, ltb, eqb}

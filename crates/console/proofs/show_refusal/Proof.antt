@@ -1,7 +1,5 @@
 -- `console::show_refusal` writes a part of its line. Assumes nothing.
 use mathlib.Core.Path.{sym}
-use Prim.Native.Nat.{_≤_}
-use native.Mathlib.Omega.{arith}
 use borrow.Author.Needs.{needs}
 use lib.Seq.{length-take-le}
 use Rattle.printing.proofs.FrontLaws.{front-fits}

@@ -23,7 +23,8 @@ import-spec =
     (λ c κs.
     let k = c .before .before .before .before .before in
     let w = given k in
-    (w .few-variables, (w .few-rules, (w .paired, book-room _ (now (k .before .before .before .before .before .before .args .out)) (k .before .before .before .if1 .left) w))))
+    let room = book-room _ (now (k .before .before .before .before .before .before .args .out)) (k .before .before .before .if1 .left) w in
+    (w .few-variables, (w .few-rules, (w .paired, room))))
     (λ c. import-refused _ _ (c .before .before .before .before .if1 .left) (c .before .before .before .read-text .ensures) (c .before .after .given .1))
     (λ c. search needs)
     (λ c.

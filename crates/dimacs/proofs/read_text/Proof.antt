@@ -1,8 +1,6 @@
 -- `dimacs::read_text` meets its contract. Assumes nothing.
-use mathlib.Core.Path.{sym, ap, _∙_}
 use borrow.Author.Needs.{needs}
 use Rattle.dimacs.specs.Text.{formulaOf}
-use Rattle.dimacs.specs.Contracts.{textAnswer}
 use Rattle.dimacs.proofs.Good.{head-good}
 use Rattle.dimacs.proofs.TextLaws.{head-refused, head-says}
 use Rattle.dimacs.proofs.read_text.Statement.{statement}

@@ -1,5 +1,5 @@
 -- `dimacs::bytes::one_or_more` meets its contract. Assumes nothing.
-use mathlib.Core.Path.{refl, sym, ap, _∙_}
+use mathlib.Core.Path.{sym, ap}
 use borrow.Author.Needs.{needs}
 use Rattle.book.specs.Contracts.{placeAnswer}
 use Rattle.book.specs.declared.PlaceAfter.the-variants as PlaceAfter

@@ -1,5 +1,5 @@
 -- `dimacs::clauses::is_allowed` meets its contract. Assumes nothing.
-use mathlib.Core.Path.{refl, sym, ap, _∙_}
+use mathlib.Core.Path.{refl}
 use native.Mathlib.Omega.{arith}
 use borrow.Author.Needs.{needs}
 use Rattle.log_form.specs.Laws.Lists.{list-length-is}

@@ -1,5 +1,5 @@
 -- `dimacs::clauses::read_clause` meets its contract. Assumes nothing.
-use mathlib.Core.Path.{sym, ap, _∙_}
+use mathlib.Core.Path.{sym, ap}
 use borrow.Author.Needs.{needs}
 use borrow.Author.Tests.{not-true, not-false}
 use Rattle.dimacs.specs.Contracts.{clauseAnswer}

@@ -22,8 +22,8 @@ abbrev μ-loop : tie.MeasureT-loop
 returns : tie.Need-returns Inv-loop μ-loop
 unfolding clausesAnswer padded
 returns c =
-    sym (ap clausesAnswer (clauses-refused _ _ _ _ _ (c .before .before .before .before .before .loop .inv) (c .before .before .before .before .loop-test .taken)
-    (clause-refused _ (c .before .before .before .read-clause .ensures) (c .before .number .given .1))))
+    sym (ap clausesAnswer (clauses-refused _ _ _ _ _ (c .before .before .before .before .before .loop .inv)
+    (c .before .before .before .before .loop-test .taken) (clause-refused _ (c .before .before .before .read-clause .ensures) (c .before .number .given .1))))
 
 -- there is room for one more
 room : (c : tie.Then1 Inv-loop μ-loop) → c .before .before .before .before .before .before .before .loop .kept < maxRules
@@ -56,6 +56,7 @@ returns-2 c =
 
 pub read-clauses-spec : {M : Type 1} → statement M
 read-clauses-spec =
-    tie.close (tie.spec Inv-loop μ-loop (λ c. clauses-none _ _ _ _) (λ c κs. search needs) (λ c. search needs) returns (λ c. search needs) (λ c κs. search needs)
-    (λ c. search (needs, room c)) (λ c. search (needs, room c)) (λ c. search (needs, room c)) (λ c. search (needs, room c)) (λ c. omega (arith, room c))
+    tie.close (tie.spec Inv-loop μ-loop (λ c. clauses-none _ _ _ _) (λ c κs. search needs) (λ c. search needs) returns (λ c. search needs)
+    (λ c κs. search needs) (λ c. search (needs, room c)) (λ c. search (needs, room c)) (λ c. search (needs, room c))
+    (λ c. search (needs, room c)) (λ c. omega (arith, room c))
     (λ c. search needs) (λ c. search needs) loop-again returns-2)

@@ -40,8 +40,8 @@ returns-2 : tie.Need-returns-2 Inv-loop μ-loop
 unfolding clauseAnswer
 returns-2 c =
     let g = c .before .before .before .before .before .before .loop .inv in
-    let all = so-far-all g (literals-closed _ _ _ (c .before .before .before .before .before .next-signed .ensures) (c .before .before .before .literal .given .1)
-    (sym (seen (c .before)) ∙ c .if1 .taken)) in
+    let all = so-far-all g (literals-closed _ _ _ (c .before .before .before .before .before .next-signed .ensures)
+    (c .before .before .before .literal .given .1) (sym (seen (c .before)) ∙ c .if1 .taken)) in
     rw all (ap (λ t. ClauseRead.Says t (c .before .before .before .literal .given .0 .1 .0)) (g .kept))
 
 with-requires : tie.Need-with-requires Inv-loop μ-loop

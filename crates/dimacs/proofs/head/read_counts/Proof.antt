@@ -15,7 +15,8 @@ read-counts-spec =
     (λ c κs. search needs)
     (λ c. rw (number-refused _ (c .before .before .before .read-up-to .ensures) (c .before .number .given .1)) refl)
     (λ c. rw (
-      number-says _ (c .before .before .before .before .before .before .before .read-up-to .ensures) (c .before .before .before .before .before .value .given .1),
+      number-says _ (c .before .before .before .before .before .before .before .read-up-to .ensures)
+          (c .before .before .before .before .before .value .given .1),
       place-refused _ (c .before .before .before .one-or-more .ensures) (c .before .number2 .given .1),
     ) refl)
     (λ c. rw (

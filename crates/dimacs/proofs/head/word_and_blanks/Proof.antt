@@ -12,7 +12,8 @@ returns c = sym (ap placeAnswer (word-wrong _ _ _ (c .before .before .before .re
 
 returns-2 : tie.Need-returns-2
 returns-2 c =
-    c .one-or-more .ensures ∙ sym (ap placeAnswer (word-passed _ _ _ (c .before .before .before .before .read-word .ensures) (c .before .before .place .given .1)))
+    c .one-or-more .ensures
+    ∙ sym (ap placeAnswer (word-passed _ _ _ (c .before .before .before .before .read-word .ensures) (c .before .before .place .given .1)))
 
 pub word-and-blanks-spec : {M : Type 1} → statement M
 word-and-blanks-spec =

@@ -1,5 +1,5 @@
 -- `dimacs::numbers::next_signed` meets its contract. Assumes nothing.
-use mathlib.Core.Path.{refl, sym, ap, _∙_}
+use mathlib.Core.Path.{refl}
 use borrow.Author.Needs.{needs}
 use Rattle.dimacs.specs.Text.{nextSigned}
 use Rattle.dimacs.specs.Contracts.{literalAnswer}

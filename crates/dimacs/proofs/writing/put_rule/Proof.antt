@@ -15,7 +15,8 @@ whole c = parts-left _ _ _ _ (rule-parts (c .args .set))
 pub put-rule-spec : {M : Type 1} → statement M
 put-rule-spec =
     tie.close (tie.spec (λ c. search needs) (λ c. search needs) (λ c κs. part-room (whole (c .before .before)) (c .before .before .pre))
-    (λ c κs. let m = c .before .before .before in part-room (left-part (whole (m .before .before .before)) (m .put-two .ensures)) (m .before .before .before .pre))
+    (λ c κs. let m = c .before .before .before in
+    part-room (left-part (whole (m .before .before .before)) (m .put-two .ensures)) (m .before .before .before .pre))
     (λ c. search needs)
     (λ c. let m = c .before .before .before .before .before .before in
     left-last (left-part (whole (m .before .before .before)) (m .put-two .ensures)) (c .before .before .put-list .ensures)))

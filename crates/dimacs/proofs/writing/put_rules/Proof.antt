@@ -1,9 +1,8 @@
 -- `dimacs::writing::put_rules` meets its contract. The invariant: the first i RL are put. Assumes nothing.
-use Prim.Native.Nat.{_-_, _<_}
+use Prim.Native.Nat.{_-_}
 use native.Mathlib.Omega.{arith}
 use borrow.Author.Needs.{needs}
 use lib.ListN.{length}
-use denote.Ref.{now}
 use Rattle.log_form.proofs.LeftLaws.{left-length}
 use Rattle.dimacs.proofs.WritingLaws.{RulesPut, rules-none, rule-room, rules-more, rules-all}
 use Rattle.dimacs.proofs.writing.put_rules.Statement.{statement}
