@@ -1,4 +1,4 @@
-// Writes to standard output what is printed for a book's bytes, and the book that is made of a DIMACS CNF text.
+// Writes to standard output what is printed for a book's bytes, and the book that is made of a DIMACS CNF text; opens stored files.
 use dimacs::Imported;
 use printing::Printed;
 use records::Book;
@@ -51,4 +51,15 @@ pub fn convert_file(fd: i32) {
     let mut space = [0u8; MAX_INPUT];
     let size = io::read_full(fd, &mut space);
     convert(&space[..size]);
+}
+
+// Writes the name of a file of the folder that the program runs in, and opens it: what is answered is below 0 where there is none.
+pub fn open_named(path: &[u8]) -> i32 {
+    io::write_all(libc::STDOUT_FILENO, path);
+    io::write_all(libc::STDOUT_FILENO, b":\n");
+    let fd = os::open_read(path);
+    if fd < 0 {
+        io::write_all(libc::STDOUT_FILENO, b"no such file\n");
+    }
+    fd
 }

@@ -26,6 +26,7 @@ use Rattle.dimacs.specs.declared.numbers.LiteralRead.the-variants as Lit
 use Rattle.dimacs.specs.declared.clauses.ClauseRead.{ClauseRead}
 use Rattle.dimacs.specs.declared.clauses.ClauseRead.the-variants as ClauseRead
 use Rattle.dimacs.proofs.ByteLaws.{stands-within, after-more, after-from, after-within}
+use Rattle.dimacs.proofs.ReadLaws.{literal-refused, literal-says, clause-refused, clause-says}
 use Rattle.dimacs.proofs.SignedLaws.{up-to-most}
 
 -- ---- what is read lies within the text
@@ -160,20 +161,11 @@ module _ (s : List ℕ) (v : ℕ) where
 
   module _ (place : ℕ) {r : LiteralRead} (e : r ≡ literalAnswer (nextSigned s v place)) where
     pub literals-wrong : {n p : ℕ} → r ≡ LiteralRead.Refused n p → literalsLeft place ≡ refused n p
-    unfolding literalsFrom literalAnswer
-    literals-wrong {n} {p} f = go (nextSigned s v place) e
-      where
-        go : (m : Read Literal) → r ≡ literalAnswer m → andThen m (follows (length s)) ≡ refused n p
-        go (value l q) g = let z : _≡_ {A = ℕ} 0 1 = cc in absurd (omega arith)
-        go (refused a q) g = cc
+    unfolding literalsFrom
+    literals-wrong f = rw (literal-refused (nextSigned s v place) e f) refl
 
     pub literal-read : {l : Literal} {next : ℕ} → r ≡ LiteralRead.Says l next → nextSigned s v place ≡ value l next
-    unfolding literalAnswer
-    literal-read {l} {next} f = go (nextSigned s v place) e
-      where
-        go : (m : Read Literal) → r ≡ literalAnswer m → m ≡ value l next
-        go (value k q) g = cc
-        go (refused a q) g = let z : _≡_ {A = ℕ} 0 1 = cc in absurd (omega arith)
+    literal-read f = literal-says (nextSigned s v place) e f
 
     module _ {l : Literal} {next : ℕ} (f : r ≡ LiteralRead.Says l next) where
       pub literals-closed : variable l ≡ 0 → literalsLeft place ≡ value [] next
@@ -200,23 +192,6 @@ dropped-masks c = refl
 pub allowed-masks : (c : List Literal) → allowed (masks c) ≡ isDropped c || leb (length (ruleOf c)) maxLiterals
 unfolding allowed clashes isDropped ruleOf
 allowed-masks c = refl
-
-module _ (m : Read (List Literal)) {r : ClauseRead} (e : r ≡ clauseAnswer m) where
-  pub clause-refused : {n p : ℕ} → r ≡ ClauseRead.Refused n p → m ≡ refused n p
-  unfolding clauseAnswer
-  clause-refused {n} {p} f = go m e
-    where
-      go : (k : Read (List Literal)) → r ≡ clauseAnswer k → k ≡ refused n p
-      go (value c q) g = let z : _≡_ {A = ℕ} 0 1 = cc in absurd (omega arith)
-      go (refused a q) g = cc
-
-  pub clause-says : {set : LiteralSet} {next : ℕ} → r ≡ ClauseRead.Says set next → (c : List Literal) × (m ≡ value c next) × (set ≡ masks c)
-  unfolding clauseAnswer
-  clause-says {set} {next} f = go m e
-    where
-      go : (k : Read (List Literal)) → r ≡ clauseAnswer k → (c : List Literal) × (k ≡ value c next) × (set ≡ masks c)
-      go (value c q) g = (c, cc, cc)
-      go (refused a q) g = let z : _≡_ {A = ℕ} 0 1 = cc in absurd (omega arith)
 
 module _ (s : List ℕ) (v place : ℕ) {r : ClauseRead} (e : r ≡ clauseAnswer (literalsFrom s v (suc (length s)) place)) where
   pub judged-wrong : {n p : ℕ} → r ≡ ClauseRead.Refused n p → clauseFrom s v place ≡ refused n p

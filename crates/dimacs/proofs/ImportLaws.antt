@@ -24,7 +24,7 @@ use Rattle.dimacs.specs.declared.TextRead.{TextRead}
 use Rattle.dimacs.proofs.Good.{formula-good}
 use Rattle.dimacs.proofs.KeptLaws.{kept-fewer}
 use Rattle.dimacs.proofs.RoundTrip.{book-short}
-use Rattle.dimacs.proofs.TextLaws.{text-refused, text-says}
+use Rattle.dimacs.proofs.ReadLaws.{text-refused, text-says}
 use Rattle.dimacs.proofs.WritingLaws.{masked-rules}
 
 -- ---- refusals

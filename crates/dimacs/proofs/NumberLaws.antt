@@ -9,11 +9,12 @@ use native.Mathlib.Omega.{arith}
 use borrow.Author.Tests.{le-leb, lt-leb}
 use lib.ListN.{length, getD, take, drop, drop-of-length-le}
 use lib.Seq.{drop-cons}
-use Rattle.records.specs.Format.{Read, value, refused}
+use Rattle.records.specs.Format.{value, refused}
 use Rattle.dimacs.specs.Text.{is, run, isDigit, isFirstDigit, numeral, stands, after, number, numberUpTo}
 use Rattle.dimacs.specs.Contracts.{tooLarge, cappedAnswer}
 use Rattle.dimacs.specs.declared.numbers.NumberRead.{NumberRead}
 use Rattle.dimacs.specs.declared.numbers.NumberRead.the-variants as NumberRead
+use Rattle.dimacs.proofs.ReadLaws.{capped-refused, capped-says}
 
 -- ---- digits
 
@@ -69,23 +70,6 @@ module _ (s : List ℕ) (place : ℕ) where
         rw (e, f, size) refl
 
 -- ---- a number up to a limit
-
-module _ (m : Read ℕ) {r : NumberRead} (e : r ≡ cappedAnswer m) where
-  pub capped-refused : {n place : ℕ} → r ≡ NumberRead.Refused n place → m ≡ refused n place
-  unfolding cappedAnswer
-  capped-refused {n} {place} f = go m e
-    where
-      go : (k : Read ℕ) → r ≡ cappedAnswer k → k ≡ refused n place
-      go (value a p) g = let z : _≡_ {A = ℕ} 0 1 = cc in absurd (omega arith)
-      go (refused a p) g = cc
-
-  pub capped-says : {n next : ℕ} → r ≡ NumberRead.Says n next → (k : ℕ) × (m ≡ value k next) × (n ≡ min k tooLarge)
-  unfolding cappedAnswer
-  capped-says {n} {next} f = go m e
-    where
-      go : (k : Read ℕ) → r ≡ cappedAnswer k → (j : ℕ) × (k ≡ value j next) × (n ≡ min j tooLarge)
-      go (value a p) g = (a, cc, cc)
-      go (refused a p) g = let z : _≡_ {A = ℕ} 0 1 = cc in absurd (omega arith)
 
 module _ (s : List ℕ) (most refusal at place : ℕ) {r : NumberRead} (e : r ≡ cappedAnswer (number s place)) where
   pub up-to-refused : {n p : ℕ} → r ≡ NumberRead.Refused n p → numberUpTo s most refusal at place ≡ refused n p

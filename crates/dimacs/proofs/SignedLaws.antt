@@ -46,23 +46,6 @@ pub up-to-most : (s : List ℕ) (most refusal at place : ℕ) {n next : ℕ} →
 unfolding numberUpTo
 up-to-most s most refusal at place e = number-upto (number s place) most refusal at e
 
-module _ (m : Read ℕ) {r : NumberRead} (e : r ≡ numberAnswer m) where
-  pub number-refused : {n place : ℕ} → r ≡ NumberRead.Refused n place → m ≡ refused n place
-  unfolding numberAnswer
-  number-refused {n} {place} f = go m e
-    where
-      go : (k : Read ℕ) → r ≡ numberAnswer k → k ≡ refused n place
-      go (value a p) g = let z : _≡_ {A = ℕ} 0 1 = cc in absurd (omega arith)
-      go (refused a p) g = cc
-
-  pub number-says : {n next : ℕ} → r ≡ NumberRead.Says n next → m ≡ value n next
-  unfolding numberAnswer
-  number-says {n} {next} f = go m e
-    where
-      go : (k : Read ℕ) → r ≡ numberAnswer k → k ≡ value n next
-      go (value a p) g = cc
-      go (refused a p) g = let z : _≡_ {A = ℕ} 0 1 = cc in absurd (omega arith)
-
 pub small-says : {r : NumberRead} {n next : ℕ} → Small r → r ≡ NumberRead.Says n next → n ≤ maxVariables
 small-says h e = (rw e at h) .small
 

@@ -2,11 +2,8 @@
 
 // The text in a file of the folder that the program runs in.
 fn text(path: &[u8]) {
-    io::write_all(libc::STDOUT_FILENO, path);
-    io::write_all(libc::STDOUT_FILENO, b":\n");
-    let fd = os::open_read(path);
+    let fd = console::open_named(path);
     if fd < 0 {
-        io::write_all(libc::STDOUT_FILENO, b"no such file\n");
         return;
     }
     console::convert_file(fd);

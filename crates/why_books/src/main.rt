@@ -4,11 +4,8 @@ use samples::counter;
 
 // The book in a file of the folder that the program runs in.
 fn book(path: &[u8]) {
-    io::write_all(libc::STDOUT_FILENO, path);
-    io::write_all(libc::STDOUT_FILENO, b":\n");
-    let fd = os::open_read(path);
+    let fd = console::open_named(path);
     if fd < 0 {
-        io::write_all(libc::STDOUT_FILENO, b"no such file\n");
         return;
     }
     console::show_file(fd);

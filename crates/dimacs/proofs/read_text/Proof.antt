@@ -2,7 +2,7 @@
 use borrow.Author.Needs.{needs}
 use Rattle.dimacs.specs.Text.{formulaOf}
 use Rattle.dimacs.proofs.Good.{head-good}
-use Rattle.dimacs.proofs.TextLaws.{head-refused, head-says}
+use Rattle.dimacs.proofs.ReadLaws.{head-refused, head-says}
 use Rattle.dimacs.proofs.read_text.Statement.{statement}
 use Rattle.dimacs.proofs.read_text.Tie as tie
 

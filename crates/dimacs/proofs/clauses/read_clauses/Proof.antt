@@ -8,7 +8,7 @@ use borrow.Author.Tests.{not-true, not-false}
 use Rattle.records.specs.Limits.{maxRules}
 use Rattle.book.specs.Answer.{padded}
 use Rattle.dimacs.specs.Contracts.{clausesAnswer}
-use Rattle.dimacs.proofs.ClauseLaws.{clause-refused, clause-says}
+use Rattle.dimacs.proofs.ReadLaws.{clause-refused, clause-says}
 use Rattle.dimacs.proofs.KeptLaws.{ClausesSoFar, clauses-none, clauses-all, clauses-refused, clauses-drop, clauses-keep, kept-upto}
 use Rattle.dimacs.proofs.clauses.read_clauses.Statement.{statement}
 use Rattle.dimacs.proofs.clauses.read_clauses.Tie as tie

@@ -3,7 +3,7 @@ use mathlib.Core.Path.{refl}
 use borrow.Author.Needs.{needs}
 use Rattle.dimacs.specs.Text.{countFrom, limited}
 use Rattle.dimacs.specs.Contracts.{headAnswer}
-use Rattle.dimacs.proofs.SignedLaws.{number-refused, number-says}
+use Rattle.dimacs.proofs.ReadLaws.{number-refused, number-says}
 use Rattle.dimacs.proofs.head.read_clause_count.Statement.{statement}
 use Rattle.dimacs.proofs.head.read_clause_count.Tie as tie
 

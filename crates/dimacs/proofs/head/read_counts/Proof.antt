@@ -3,8 +3,7 @@ use mathlib.Core.Path.{refl}
 use borrow.Author.Needs.{needs}
 use Rattle.dimacs.specs.Text.{countsFrom, limited}
 use Rattle.dimacs.specs.Contracts.{headAnswer}
-use Rattle.dimacs.proofs.ReadLaws.{place-refused, place-at}
-use Rattle.dimacs.proofs.SignedLaws.{number-refused, number-says}
+use Rattle.dimacs.proofs.ReadLaws.{place-refused, place-at, number-refused, number-says}
 use Rattle.dimacs.proofs.head.read_counts.Statement.{statement}
 use Rattle.dimacs.proofs.head.read_counts.Tie as tie
 
