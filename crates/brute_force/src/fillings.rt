@@ -144,18 +144,6 @@ pub fn is_model(b: Reckoned, filling: u64) -> bool {
     holds(filling, facts(b))
 }
 
-// One filling more, where there is room.
-fn with(mut f: Fillings, filling: u64) -> Fillings {
-    let n = f.count;
-    if n < Fillings::ROOM {
-        f.room[n] = filling;
-        f.count = n + 1;
-    } else {
-        f.whole = false;
-    }
-    f
-}
-
 // How many fillings are gone through: all of them, or none where there are too many.
 pub fn number_of(variables: usize) -> u64 {
     if variables <= Fillings::VARIABLES {
@@ -171,17 +159,20 @@ pub fn obeying(b: Reckoned) -> Fillings {
     let no = b.no;
     let rules = b.rules;
     let all = number_of(b.variables);
-    let mut f = Fillings {
-        room: [0; Fillings::ROOM],
-        count: 0,
-        whole: b.variables <= Fillings::VARIABLES,
-    };
+    let mut room = [0u64; Fillings::ROOM];
+    let mut count: usize = 0;
+    let mut whole = b.variables <= Fillings::VARIABLES;
     for filling in 0..all {
-        if f.whole & obeys(&yes, &no, rules, filling) {
-            f = with(f, filling);
+        if whole & obeys(&yes, &no, rules, filling) {
+            if count < Fillings::ROOM {
+                room[count] = filling;
+                count += 1;
+            } else {
+                whole = false;
+            }
         }
     }
-    f
+    Fillings { room, count, whole }
 }
 
 // The first fillings of a room, as many as are asked for.

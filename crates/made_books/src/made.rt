@@ -3,12 +3,12 @@ use samples::build;
 use samples::build::Draft;
 use samples::random;
 
-// What a book that is made up is like. Where there is no variable there can be no rule.
+// What a book that is made up is like. Where there is no variable its rules have no literals.
 pub struct Shape {
     pub variables: u8,
     pub choices: u8,
     pub rules: u8,
-    // The fewest and the most literals of a rule and the most that a literal costs, all at least 1.
+    // The fewest and the most literals of a rule, and the most that a literal costs, which is at least 1.
     pub fewest: u8,
     pub literals: u8,
     pub cost: u16,
@@ -151,7 +151,8 @@ pub fn book(seed: u64, like: Shape) -> Draft {
     build::end(facts(rules(d, like), like))
 }
 
-// A good book of up to `most` variables, which are at most 32, and up to twelve rules, made up from a seed.
+// A good book of up to `most` variables, which are at most 32, and up to twelve rules, made up from a seed. In every other
+// book rules of no literals are among them.
 pub fn any_book(seed: u64, most: u8) -> Draft {
     let a = random::next(seed);
     let b = random::next(a);
@@ -159,10 +160,7 @@ pub fn any_book(seed: u64, most: u8) -> Draft {
     let variables = random::byte_below(a, std::num::wrapping_add_u8(most, 1));
     let most_choices = if variables < 20 { variables } else { 20 };
     let choices = random::byte_below(b, std::num::wrapping_add_u8(most_choices, 1));
-    let rules = if variables == 0 {
-        0
-    } else {
-        random::byte_below(c, 13)
-    };
-    book(c, wide_shape(variables, choices, rules))
+    let mut like = wide_shape(variables, choices, random::byte_below(c, 13));
+    like.fewest = random::byte_below(random::next(c), 2);
+    book(c, like)
 }

@@ -12,15 +12,17 @@ fn up_to(seed: u64, n: u8) -> u8 {
 }
 
 // Up to fourteen rules, as often as not up to four.
-fn rules(seed: u64, variables: u8) -> u8 {
-    if variables == 0 {
-        return 0;
-    }
+fn rules(seed: u64) -> u8 {
     if random::byte(seed) < 128 {
         up_to(random::next(seed), 4)
     } else {
         up_to(random::next(seed), 14)
     }
+}
+
+// The fewest literals of a rule: one, and in one book out of sixteen none, since a book with such a rule has no model.
+fn fewest(seed: u64) -> u8 {
+    if random::byte(seed >> 8) < 16 { 0 } else { 1 }
 }
 
 // Up to so many variables and choices, rules of up to four literals at most, any number of facts.
@@ -29,17 +31,18 @@ pub fn any(seed: u64, most_variables: u8, most_choices: u8, cost: u16) -> Shape 
     let b = random::next(a);
     let c = random::next(b);
     let d = random::next(c);
+    let e = random::next(d);
     let variables = up_to(a, most_variables);
     let choices = up_to(b, least(variables, most_choices));
     Shape {
         variables,
         choices,
-        rules: rules(c, variables),
-        fewest: 1,
+        rules: rules(c),
+        fewest: fewest(e),
         literals: std::num::wrapping_add_u8(up_to(d, 3), 1),
         cost,
         givens: choices,
-        every: std::num::wrapping_add_u8(up_to(random::next(d), 5), 1),
+        every: std::num::wrapping_add_u8(up_to(e, 5), 1),
         planted: false,
         filling: 0,
     }

@@ -82,7 +82,7 @@ pub fn rule_counts(t: Tally) -> Tally {
     let t = compare::expect(t, build::end(eight), 0, 0);
     let t = long(t, 9, 9, 17, 5);
     let t = long(t, 9, 9, 8, 5);
-    let t = long(t, 9, 0, 8, 5);
+    let t = long(t, 9, 0, 7, 1);
     let t = long(t, 9, 255, 8, 5);
     let t = long(t, 9, 8, 15, 1);
     let t = long(t, 7, 8, 15, 1);
@@ -91,6 +91,35 @@ pub fn rule_counts(t: Tally) -> Tally {
     let t = long(t, 9, 8, 7, 1);
     let t = long(t, 9, 8, 6, 1);
     long(t, 9, 8, 5, 1)
+}
+
+// A book of no choices whose rules have these counts, the literals from 1 on.
+fn three_rules(t: Tally, variables: u8, first: u8, second: u8, third: u8) -> Tally {
+    let d = build::header(build::empty(), variables, 0, 3);
+    let d = build::long_rule(build::long_rule(d, 1, first), 1, second);
+    compare::expect(t, build::end(build::long_rule(d, 1, third)), 0, 0)
+}
+
+// Rules of no literals: alone, with the facts after them, first, between others and last, many of them, and with what may
+// not follow them.
+pub fn empty_rules(t: Tally) -> Tally {
+    let alone = build::rule(build::header(build::empty(), 0, 0, 1), 0);
+    let t = compare::expect(t, build::end(alone), 0, 0);
+    let t = compare::expect(t, alone, 1, 8);
+    let t = compare::expect(t, build::end(build::put(alone, 1)), 2, 8);
+    let t = compare::expect(t, build::end(build::rule(alone, 0)), 2, 8);
+    let t = compare::expect(t, build::end(build::put(alone, 0)), 2, 8);
+    let d = build::costs(build::header(build::empty(), 1, 1, 1), 1);
+    let given = build::fact(build::rule(d, 0), 1);
+    let t = compare::expect(t, build::end(given), 0, 0);
+    let t = compare::expect(t, build::end(build::fact(given, 1)), 6, 18);
+    let t = three_rules(three_rules(t, 2, 0, 2, 1), 2, 1, 0, 2);
+    let t = three_rules(three_rules(t, 2, 2, 1, 0), 0, 0, 0, 0);
+    let t = three_rules(three_rules(t, 8, 0, 8, 0), 32, 8, 0, 8);
+    let two = build::rule(build::header(build::empty(), 1, 0, 2), 0);
+    let t = compare::expect(t, build::end(two), 2, 8);
+    let t = compare::expect(t, build::end(build::rule_of(two, 2)), 6, 8);
+    compare::expect(t, build::end(build::long_rule(two, 1, 9)), 5, 8)
 }
 
 pub fn rule_literals(t: Tally) -> Tally {
@@ -194,6 +223,6 @@ pub fn ends(t: Tally) -> Tally {
 // Every one of them.
 pub fn all(t: Tally) -> Tally {
     let t = costs(headers(t));
-    let t = rule_literals(rule_counts(t));
+    let t = rule_literals(empty_rules(rule_counts(t)));
     ends(marks(facts(t)))
 }

@@ -5,12 +5,14 @@ use samples::reckon;
 use samples::reckon::Reckoned;
 
 // Of a group: how many books were tried, at how many reader and reckoning differed, at how many the reader was not as
-// expected. Of all groups: how many books were reckoned good (entry 0) or refused with each number.
+// expected. Of all groups: how many books were reckoned good (entry 0) or refused with each number, and how many hold a rule
+// of no literals.
 pub struct Tally {
     pub tried: u64,
     pub differ: u64,
     pub unexpected: u64,
     pub numbers: [u64; 8],
+    pub empty_rules: u64,
 }
 
 pub fn none() -> Tally {
@@ -19,6 +21,7 @@ pub fn none() -> Tally {
         differ: 0,
         unexpected: 0,
         numbers: [0; 8],
+        empty_rules: 0,
     }
 }
 
@@ -57,6 +60,9 @@ pub fn count(t: Tally, d: Draft) -> Tally {
     let s = build::part(&bytes, d.len);
     let due = reckon::reckon(s);
     let mut after = noted(t, due.number);
+    if reckon::has_empty_rule(due) {
+        after.empty_rules = std::num::wrapping_add_u64(after.empty_rules, 1);
+    }
     if !agrees(s, due) {
         after.differ = std::num::wrapping_add_u64(after.differ, 1);
     }

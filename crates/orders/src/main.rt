@@ -35,6 +35,8 @@ fn answers(t: Tally) {
     io::print_decimal(1, t.numbers[0]);
     io::write_all(1, b" good, refused with 1 to 7:");
     entries(t);
+    io::write_all(1, b"\ngood books with a rule of no literals: ");
+    io::print_decimal(1, t.empty_rules);
     io::write_all(1, b"\n");
 }
 

@@ -83,6 +83,7 @@ fn seen(t: Tally, b: Reckoned, due: Due) -> Tally {
     let t = tally::seen(t, tally::NO_VARIABLES, b.variables == 0);
     let t = tally::seen(t, tally::NO_CHOICES, b.choices == 0);
     let t = tally::seen(t, tally::NO_RULES, b.rules == 0);
+    let t = tally::seen(t, tally::EMPTY_RULE, reckon::has_empty_rule(b));
     if due.number != 0 {
         return tally::seen(t, tally::NO_MODEL, true);
     }

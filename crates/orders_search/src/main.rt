@@ -6,6 +6,7 @@ mod asked_log;
 mod compare;
 mod counter_logs;
 mod counter_steps;
+mod empty_rules;
 mod groups;
 mod logged;
 mod report;
@@ -59,6 +60,12 @@ fn compared() {
 fn counter() {
     let t = counter_logs::all(counter_steps::all(worked::all(tally::none())));
     report::all(b"orders at the counter:\n", t);
+}
+
+// Books that no filling obeys, wherever in them the rule of no literals stands.
+fn without_literals() {
+    let t = empty_rules::all(tally::none());
+    report::all(b"books with a rule of no literals:\n", t);
 }
 
 // Books with a model planted: so many variables and choices or a few fewer, and costs up to `cost`.
@@ -138,6 +145,7 @@ fn other_rules() {
 fn main() {
     compared();
     counter();
+    without_literals();
     walked();
     walked_large();
     retyped_pairs();

@@ -67,6 +67,7 @@ fn write_kind(kind: usize) {
         tally::NO_VARIABLES => write(b"books with no variables"),
         tally::NO_CHOICES => write(b"books with no choices"),
         tally::NO_RULES => write(b"books with no rules"),
+        tally::EMPTY_RULE => write(b"books with a rule of no literals"),
         tally::LEFT_OUT => write(b"books left out"),
         _ => report_pairs::write_kind(kind),
     }

@@ -23,6 +23,9 @@ pub fn write_group(group: usize) {
 pub fn write_kind(kind: usize) {
     match kind {
         tally::PAIRS_NO_MODEL => report::write(b"pairs without a model"),
+        tally::PAIRS_EMPTY_RULE => {
+            report::write(b"pairs with a rule of no literals in one or both")
+        }
         tally::PAIRS_WITH_STEP => report::write(b"pairs with a log of at least one step"),
         tally::PAIRS_WITH_THREE => report::write(b"pairs with a log of at least three steps"),
         _ => report::write(b"masks refused with 10"),

@@ -61,6 +61,8 @@ fn compared(t: Tally, first: &[u8], second: &[u8], seed: u64) -> Tally {
     let models = compare::model_agrees(first, a, due) && compare::model_agrees(second, b, due);
     let t = tally::noted(t, tally::SAME_MODEL, models);
     let t = tally::seen(t, tally::PAIRS_NO_MODEL, due.number != 0);
+    let empty = reckon::has_empty_rule(a) || reckon::has_empty_rule(b);
+    let t = tally::seen(t, tally::PAIRS_EMPTY_RULE, empty);
     retyped_asked::all(t, first, second, walks::case_of(all, a), seed)
 }
 

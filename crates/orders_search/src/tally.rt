@@ -85,18 +85,23 @@ pub const NO_CHOICES: usize = 13;
 
 pub const NO_RULES: usize = 14;
 
+// Books with a rule of no literals.
+pub const EMPTY_RULE: usize = 15;
+
 // Books that are left out: more fillings obey their rules than there is room for.
-pub const LEFT_OUT: usize = 15;
+pub const LEFT_OUT: usize = 16;
 
-// Pairs of books without a model, with a log of at least one step, with one of at least three; masks that are refused
-// with 10.
-pub const PAIRS_NO_MODEL: usize = 16;
+// Pairs of books without a model, with a rule of no literals, with a log of at least one step, with one of at least three;
+// masks that are refused with 10.
+pub const PAIRS_NO_MODEL: usize = 17;
 
-pub const PAIRS_WITH_STEP: usize = 17;
+pub const PAIRS_EMPTY_RULE: usize = 18;
 
-pub const PAIRS_WITH_THREE: usize = 18;
+pub const PAIRS_WITH_STEP: usize = 19;
 
-pub const MASKS_REFUSED: usize = 19;
+pub const PAIRS_WITH_THREE: usize = 20;
+
+pub const MASKS_REFUSED: usize = 21;
 
 // Here end the kinds that have a line each.
 pub const LINES: usize = MASKS_REFUSED + 1;

@@ -164,7 +164,7 @@ fn spoilt_sets(t: Tally, s: &[u8], case: Case, seed: u64) -> Tally {
 }
 
 // A book without a model: 9 at 0, also where the known set is wrong.
-fn without_model(t: Tally, s: &[u8], facts: Literals) -> Tally {
+pub fn without_model(t: Tally, s: &[u8], facts: Literals) -> Tally {
     let t = tally::noted(t, tally::WITHOUT_MODEL, asked::step_refused(s, facts, 9, 0));
     let wrong = Literals { yes: 1, no: 1 };
     tally::noted(t, tally::WITHOUT_MODEL, asked::step_refused(s, wrong, 9, 0))
@@ -199,6 +199,7 @@ fn place_of(steps: u64) -> usize {
 fn good(t: Tally, s: &[u8], b: Reckoned, all: &[u64], seed: u64) -> Tally {
     let case = case_of(all, b);
     if !fillings::possible(all, case.facts) {
+        let t = tally::seen(t, tally::EMPTY_RULE, reckon::has_empty_rule(b));
         return logged::without_model(without_model(t, s, case.facts), s);
     }
     let way = along(t, s, all, case);

@@ -21,15 +21,15 @@ fn have_resolvent(a: Literals, b: Literals) -> bool {
     if u64::count_ones(clash(a, b)) != 1 {
         return false;
     }
-    let size = rules::size(resolvent(a, b));
-    0 < size && size <= Rules::LITERALS
+    rules::size(resolvent(a, b)) <= Rules::LITERALS
 }
 
-// A rule with one literal more, drawn from the state. Where it has that variable, the rule itself.
+// A rule with one literal more, drawn from the state. Where it has that variable, or there is none, the rule itself.
 fn longer(r: Rules, rule: Literals) -> Literals {
     let v = random::place_below(r.seed, r.variables);
     let more = rules::literal(v, r.seed % 2 == 0);
-    fillings::joined(rule, fillings::within(more, !(rule.yes | rule.no)))
+    let open = fillings::first(r.variables) & !(rule.yes | rule.no);
+    fillings::joined(rule, fillings::within(more, open))
 }
 
 // A resolvent of this rule and the first that gives one, or the rule with one literal more.

@@ -83,12 +83,9 @@ pub fn size(rule: Literals) -> u32 {
     u64::count_ones(rule.yes | rule.no)
 }
 
-// Whether a book can have this rule: 1 to 8 literals, and no variable both ways.
+// Whether a book can have this rule: up to 8 literals, and no variable both ways.
 fn can_stand(rule: Literals) -> bool {
     if rule.yes & rule.no != 0 {
-        return false;
-    }
-    if fillings::is_empty(rule) {
         return false;
     }
     size(rule) <= Rules::LITERALS

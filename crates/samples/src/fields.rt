@@ -3,18 +3,18 @@ ghost use Prim.Native.Nat.{_<_};
 use crate::machine;
 use crate::machine::Machine;
 
-// A rule's count, which is refused before its literals are waited for.
+// A rule's count, which is refused before its literals are waited for. A rule of no literals ends with it.
 pub fn count(mut m: Machine, b: u8) -> Machine {
-    if b == 0 {
-        m.number = 5;
-        return m;
-    }
     if b > 8 {
         m.number = 5;
         return m;
     }
     m.rules_begun = std::num::wrapping_add_u8(m.rules_begun, 1);
-    m.state = machine::FIELD;
+    m.state = if b == 0 {
+        machine::FIRST_LETTER
+    } else {
+        machine::FIELD
+    };
     m.left = b;
     m.last = 0;
     m.yes = 0;

@@ -189,3 +189,23 @@ pub fn reckon(s: &[u8]) -> Reckoned {
         costs,
     }
 }
+
+// Whether the rule at a place has no literals.
+fn is_empty_rule(b: Reckoned, i: usize) -> bool {
+    if i < 128 {
+        b.yes[i] | b.no[i] == 0
+    } else {
+        false
+    }
+}
+
+// Whether a book holds a rule of no literals.
+pub fn has_empty_rule(b: Reckoned) -> bool {
+    let rules = b.rules;
+    for i in 0..rules {
+        if is_empty_rule(b, i) {
+            return true;
+        }
+    }
+    false
+}

@@ -6,6 +6,6 @@ use Rattle.brute_force.proofs.fillings.obeying.Tie as tie
 
 pub obeying-spec : {M : Type 1} → statement M
 obeying-spec =
-    tie.close (tie.spec (λ _ _ _ _ _ _ _ _. Unit {0}) (λ _ _ _ all _ _ _ filling. all - filling)
-    (λ c κs. search needs) (λ c. search needs) (λ c κs. search needs) (λ c κs. search needs) (λ c. search needs)
-    (λ c. search needs) (λ c. search needs) (λ c. search needs))
+    tie.close (tie.spec (λ _ _ _ _ _ _ _ _ _ _ _ _. Unit {0}) (λ _ _ _ all _ _ _ _ _ _ _ filling. all - filling)
+    (λ c κs. search needs) (λ c. search needs) (λ c κs. search needs) (λ c. search needs) (λ c. search needs) (λ c. search needs)
+    (λ c. search needs) (λ c. search needs) (λ c. search needs) (λ c. search needs))

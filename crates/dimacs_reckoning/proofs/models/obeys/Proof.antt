@@ -1,0 +1,11 @@
+-- The loop counts `i` up to the length.
+use borrow.Author.Needs.{needs}
+use Prim.Native.Nat.{_-_}
+use Rattle.dimacs_reckoning.proofs.models.obeys.Statement.{statement}
+use Rattle.dimacs_reckoning.proofs.models.obeys.Tie as tie
+
+pub obeys-spec : {M : Type 1} → statement M
+obeys-spec =
+    tie.close (tie.spec (λ _ _ _ _ _ _ _ _. Unit {0}) (λ _ _ _ _ _ i-end _ i. i-end - i) (λ c κs. search needs)
+    (λ c. search needs) (λ c κs. search needs) (λ c κs. search needs) (λ c. search needs) (λ c. search needs)
+    (λ c. search needs) (λ c κs. search needs) (λ c. search needs) (λ c. search needs))

@@ -1,0 +1,101 @@
+// Books that hold a rule of no literals. No filling obeys such a rule, so there is no model whatever else the book says.
+use crate::compare;
+use crate::compare::Due;
+use crate::logged;
+use crate::tally;
+use crate::tally::Tally;
+use crate::walks;
+use brute_force::fillings;
+use brute_force::fillings::Literals;
+use samples::build;
+use samples::build::Draft;
+use samples::reckon;
+
+// A book that is read, and to which each search answers 9 at 0; a log whose buffer is short is refused with 8.
+fn no_model(t: Tally, d: Draft) -> Tally {
+    let bytes = d.bytes;
+    let s = build::part(&bytes, d.len);
+    let b = reckon::reckon(s);
+    let read = readings::agree(engine::read_book(s), engine::read_costs(s), b);
+    let due = Due {
+        number: 9,
+        place: 0,
+        forced: Literals { yes: 0, no: 0 },
+    };
+    let forced = compare::same_consequence(compare::consequence_said(s), due);
+    let t = tally::noted(t, tally::READING, read && b.number == 0);
+    let t = tally::noted(t, tally::MODEL, compare::model_agrees(s, b, due));
+    let t = tally::noted(t, tally::CONSEQUENCE, forced);
+    let t = tally::seen(t, tally::NO_VARIABLES, b.variables == 0);
+    let t = tally::seen(t, tally::EMPTY_RULE, reckon::has_empty_rule(b));
+    logged::without_model(walks::without_model(t, s, fillings::facts(b)), s)
+}
+
+// What the books of a group are like: the rules over the first variables have so many literals, and so many choices are
+// given.
+struct Like {
+    variables: u8,
+    choices: u8,
+    rules: u8,
+    literals: u8,
+    givens: u8,
+}
+
+// The rules, of which the one at a place has no literals.
+fn rules(d: Draft, like: Like, place: u8) -> Draft {
+    let end = like.rules;
+    let mut made = d;
+    for i in 0..end {
+        let count = if i == place { 0 } else { like.literals };
+        made = build::long_rule(made, 1, count);
+    }
+    made
+}
+
+// Facts over the first choices, all yes.
+fn facts(d: Draft, givens: u8) -> Draft {
+    let mut made = d;
+    for i in 0..givens {
+        made = build::fact(made, std::num::wrapping_add_u8(i, 1));
+    }
+    made
+}
+
+// A book whose rule at a place has no literals.
+fn book_at(like: Like, place: u8) -> Draft {
+    let d = build::header(build::empty(), like.variables, like.choices, like.rules);
+    let d = rules(build::costs(d, like.choices), like, place);
+    build::end(facts(d, like.givens))
+}
+
+// A book for each place of the rule that has no literals.
+fn at_each_place(t: Tally, like: Like) -> Tally {
+    let end = like.rules;
+    let mut after = t;
+    for place in 0..end {
+        after = no_model(after, book_at(like, place));
+    }
+    after
+}
+
+fn books(t: Tally, variables: u8, choices: u8, rules: u8, literals: u8, givens: u8) -> Tally {
+    let like = Like {
+        variables,
+        choices,
+        rules,
+        literals,
+        givens,
+    };
+    at_each_place(t, like)
+}
+
+// The rule alone, with and without variables, choices and facts; among others; and books at the limits, the last of which
+// has only such rules.
+pub fn all(t: Tally) -> Tally {
+    let t = books(books(t, 0, 0, 1, 0, 0), 3, 0, 1, 0, 0);
+    let t = books(books(t, 2, 2, 1, 0, 0), 2, 2, 1, 0, 2);
+    let t = books(books(t, 0, 0, 5, 0, 0), 4, 0, 5, 2, 0);
+    let t = books(books(t, 4, 3, 6, 3, 0), 4, 3, 6, 1, 1);
+    let t = books(books(t, 32, 20, 128, 8, 0), 32, 20, 128, 8, 20);
+    books(t, 32, 20, 128, 0, 3)
+}
