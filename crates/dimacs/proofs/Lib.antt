@@ -3,6 +3,7 @@ pub mod ReadLaws
 pub mod NumberLaws
 pub mod SignedLaws
 pub mod HeadLaws
+pub mod PlaceLaws
 pub mod ClauseLaws
 pub mod KeptLaws
 pub mod WritingLaws

@@ -1,6 +1,7 @@
 -- What stands in the buffer after a DIMACS CNF text was taken.
 -- Assumes nothing.
-use mathlib.Core.Path.{_≡_, refl, ap, _∙_}
+use mathlib.Core.Path.{_≡_, refl, sym, ap, _∙_}
+use mathlib.Core.Logic.{inl, inr}
 use mathlib.Core.Bool.{Bool, true, false, cond, and-true}
 use mathlib.Core.List.{List}
 use Prim.Native.Nat.{ℕ, _≤_}
@@ -21,7 +22,8 @@ use Rattle.dimacs.specs.declared.Imported.the-variants as Imported
 use Rattle.dimacs.proofs.Good.{GoodFormula, formula-good}
 use Rattle.dimacs.proofs.RoundTrip.{book-read, book-short}
 use Rattle.dimacs.proofs.SameModels.{obeys-kept}
-use Rattle.engine.specs.Dimacs.{BookOf, Leaves, DimacsCall}
+use Rattle.dimacs.proofs.PlaceLaws.{text-refusals}
+use Rattle.engine.specs.Dimacs.{BookOf, Leaves, RefusalOf, DimacsCall}
 
 -- a filling is a model of the book exactly where it satisfies the formula: there is no fact to make true
 same-models : (f : Formula) (g : ℕ) → models (problemOf (bookOf f)) g ≡ satisfies g f
@@ -51,11 +53,33 @@ taken room s {f} {end} e = go (ltb room maxWithoutFacts) e
     go true g = let z : _≡_ {A = ℕ} 0 1 = cc in absurd (omega arith)
     go false g = g
 
+-- a refusal is that of a short buffer, or of the text
+refusal-of : (room : ℕ) (s : List ℕ) {number place : ℕ} → imported room s ≡ refused number place → RefusalOf s number place
+unfolding imported
+refusal-of room s {number} {place} e = go (ltb room maxWithoutFacts) e
+  where
+    go : (b : Bool) → cond b (refused 8 0) (formulaOf s) ≡ refused number place → RefusalOf s number place
+    go true g =
+        let eight : 8 ≡ number = cc in
+        let first : 0 ≡ place = cc in
+        record { numbered = inl (omega arith); placed = omega arith }
+    go false g = let w = text-refusals s g in record { numbered = inr (w .0, w .1); placed = w .2 }
+
+-- what was answered with a refusal was refused
+answered-refusal : (m : Read Formula) {number place : ℕ} → importAnswer m ≡ Imported.Refused number place → m ≡ refused number place
+unfolding importAnswer
+answered-refusal (value f end) e = let z : _≡_ {A = ℕ} 0 1 = cc in absurd (omega arith)
+answered-refusal (refused n p) e = cc
+
 -- the contract, from what the call answers by equation
 pub dimacs-call : (s before : List ℕ) {after : List ℕ} {r : Imported} → ImportedAs (imported (length before) s) before after r
     → DimacsCall s before after r
 unfolding importAnswer bufferAfter
-dimacs-call s before {after} {r} w = record { said = w; leaves = go (imported (length before) s) refl w }
+dimacs-call s before {after} {r} w = record {
+  said = w;
+  leaves = go (imported (length before) s) refl w;
+  refusals = λ number place e. refusal-of (length before) s (answered-refusal (imported (length before) s) (sym (w .answered) ∙ e));
+}
   where
     go : (m : Read Formula) → imported (length before) s ≡ m → ImportedAs m before after r → Leaves m after r
     go (refused number place) e k = k .answered

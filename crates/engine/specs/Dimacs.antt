@@ -1,6 +1,7 @@
 -- What the call that reads a DIMACS CNF text means (document 02, E2), for any text and any buffer: its answer and the buffer by equation, and of a text
 -- that is taken that what stands in the buffer is a proper book with the same models.
 use mathlib.Core.Path.{_≡_}
+use mathlib.Core.Logic.{_⊎_}
 use mathlib.Core.List.{List, []}
 use Prim.Native.Nat.{ℕ, _^_, _≤_, _<_, min}
 use lib.ListN.{length, take, replicate}
@@ -31,7 +32,13 @@ Leaves (value f end) after (Imported.Written size) = BookOf f (take size after) 
 Leaves (value f end) after (Imported.Refused number place) = ⊥
 Leaves (refused number place) after r = r ≡ Imported.Refused number place
 
+-- A refusal of a text: 8, or 12 or 13 at a place of the text or at its length.
+pub record RefusalOf (s : List ℕ) (number place : ℕ) : Type 0 where
+  pub numbered : (number ≡ 8) ⊎ ((12 ≤ number) × (number ≤ 13))
+  pub placed : place ≤ length s
+
 -- The contract of `read_dimacs`.
 pub record DimacsCall (s before after : List ℕ) (r : Imported) : Type 0 where
   pub said : ImportedAs (imported (length before) s) before after r
   pub leaves : Leaves (imported (length before) s) after r
+  pub refusals : (number place : ℕ) → r ≡ Imported.Refused number place → RefusalOf s number place
