@@ -37,45 +37,54 @@ fn longest() -> Long {
     alike(32, long::falling_clause(32, 8), 128)
 }
 
-// The longest book has all of the shortest buffer; without its last bytes, with more clauses or a longer last one the file is
-// refused.
-fn around_the_longest(t: Tally) -> Tally {
-    let l = longest();
-    let nine = long::falling_clause(32, 9);
+// The longest book has all of the shortest buffer, also without the file's last line end and with more blanks behind it.
+fn longest_taken(t: Tally, l: Long) -> Tally {
     let t = expect(t, l, 0, 0, 1555);
     let t = expect(t, cut(l, 4364), 0, 0, 1555);
+    expect(t, long::bytes(l, b"\r\n \t\n"), 0, 0, 1555)
+}
+
+// Without its last 0, or with a byte or a clause more, the file is refused.
+fn longest_wrong(t: Tally, l: Long) -> Tally {
     let t = expect(t, cut(l, 4363), 12, 4363, 0);
     let t = expect(t, cut(l, 4362), 12, 4362, 0);
-    let t = expect(t, long::bytes(l, b"\r\n \t\n"), 0, 0, 1555);
     let t = expect(t, long::bytes(l, b"0\n"), 12, 4365, 0);
-    let t = expect(t, long::bytes(l, b"\x00"), 12, 4365, 0);
+    expect(t, long::bytes(l, b"\x00"), 12, 4365, 0)
+}
+
+// So it is with a longer last clause, and where 129 clauses are announced.
+fn longest_too_large(t: Tally, l: Long) -> Tally {
+    let nine = long::falling_clause(32, 9);
     let t = expect(t, long::draft(cut(l, 4331), nine), 13, 4331, 0);
     let more = long::times(long::head(32, 129), long::falling_clause(32, 8), 129);
     expect(t, more, 13, 9, 0)
 }
 
-// Clauses that are short, that have no literals, that are dropped, and that have repeats, 128 of each.
+fn around_the_longest(t: Tally) -> Tally {
+    let l = longest();
+    longest_too_large(longest_wrong(longest_taken(t, l), l), l)
+}
+
+// A file of 128 clauses that are all these bytes, of which a book of this length is made.
+fn clauses_alike(t: Tally, variables: u8, clause: &[u8], size: usize) -> Tally {
+    let l = alike(variables, build::bytes(build::empty(), clause), 128);
+    expect(t, l, 0, 0, size)
+}
+
+// Clauses that have no literals, that are dropped, and that have repeats.
 fn other_clauses(t: Tally) -> Tally {
-    let none = build::empty();
-    let t = expect(t, alike(32, build::bytes(none, b"0 "), 128), 0, 0, 531);
-    let t = expect(t, alike(0, build::bytes(none, b"0\n"), 128), 0, 0, 391);
-    let t = expect(t, alike(1, build::bytes(none, b"1 -1 0\n"), 128), 0, 0, 14);
-    let t = expect(
-        t,
-        alike(20, build::bytes(none, b"20 20 0\n"), 128),
-        0,
-        0,
-        659,
-    );
-    let t = expect(
-        t,
-        alike(32, build::bytes(none, b"32 -1 32 -1 32 0 "), 128),
-        0,
-        0,
-        787,
-    );
+    let t = clauses_alike(t, 32, b"0 ", 531);
+    let t = clauses_alike(t, 0, b"0\n", 391);
+    let t = clauses_alike(t, 1, b"1 -1 0\n", 14);
+    let t = clauses_alike(t, 20, b"20 20 0\n", 659);
+    clauses_alike(t, 32, b"32 -1 32 -1 32 0 ", 787)
+}
+
+// 128 clauses of nine literals; 127 clauses where 128 are announced, and the last one put behind them, which is dropped.
+fn last_clauses(t: Tally) -> Tally {
     let t = expect(t, alike(9, long::falling_clause(9, 9), 128), 13, 12, 0);
-    let both = long::times(long::head(2, 128), build::bytes(none, b"-2 1 0\n"), 127);
+    let clause = build::bytes(build::empty(), b"-2 1 0\n");
+    let both = long::times(long::head(2, 128), clause, 127);
     let t = expect(t, both, 12, 901, 0);
     expect(t, long::bytes(both, b"2 1 -2 0"), 0, 0, 656)
 }
@@ -100,6 +109,6 @@ fn long_clauses(t: Tally) -> Tally {
 
 // Every one of them.
 pub fn all(t: Tally) -> Tally {
-    let t = other_clauses(around_the_longest(t));
+    let t = last_clauses(other_clauses(around_the_longest(t)));
     long_clauses(long_comments(t))
 }
