@@ -1,13 +1,23 @@
--- One rule more at the end of the rules: the search is posed again. Assumes nothing.
-use mathlib.Core.Path.{_≡_, refl}
+-- One rule more at the end of the rules: the search is posed again, and what it finds. Assumes nothing.
+use mathlib.Core.Path.{_≡_, refl, sym, ap, _∙_}
+use mathlib.Core.Bool.{true, _&&_, and-true, and-assoc}
 use mathlib.Core.List.{List, [], _∷_, _++_}
 use Prim.Native.Nat.{ℕ, _+_, _^_, _<_}
 use native.Mathlib.Decide.{decLt}
 use native.Mathlib.Omega.{arith}
 use lib.ListN.{length, getD, length-append, List·getD-append}
 use lib.Seq.{getD-at}
+use Rattle.literals.specs.Truth.{obeysMasks}
+use Rattle.literals.specs.Laws.{and-both}
+use Rattle.literals.specs.declared.LiteralSet.{LiteralSet}
 use Rattle.propagation.specs.Contracts.{MasksBelow}
-use Rattle.sat.specs.Contracts.{Posed}
+use Rattle.sat.specs.Meaning.{obeysAll, Model}
+use Rattle.sat.specs.Contracts.{Posed, Searched}
+use Rattle.sat.specs.Laws.Assigns.{model-rules}
+use Rattle.sat.specs.declared.SearchResult.{SearchResult}
+use Rattle.sat.specs.declared.SearchResult.the-variants.{Found, Nothing}
+use Rattle.consequence.specs.Contracts.{Denied}
+use Rattle.consequence.specs.Laws.Common.{denies-obeys, obeys-denies}
 
 masks-snoc : (n : ℕ) (ms : List ℕ) (m : ℕ) → MasksBelow n ms → m < 2 ^ n → MasksBelow n (ms ++ (m ∷ []))
 masks-snoc n ms m a h = record { below = λ i l. go i l (decLt i (length ms)) }
@@ -29,3 +39,30 @@ posed-more {n} {ys} {ns} y m p hy hm = record {
   off-below = p .off-below;
   apart = p .apart;
 }
+
+-- ---- its models
+
+obeys-snoc : (f : ℕ) (ys ns : List ℕ) (y k : ℕ) → length ys ≡ length ns
+    → obeysAll f (ys ++ (y ∷ [])) (ns ++ (k ∷ [])) ≡ obeysAll f ys ns && obeysMasks f y k
+unfolding obeysAll
+obeys-snoc f [] [] y k e = and-true (obeysMasks f y k)
+obeys-snoc f [] (m ∷ ns) y k e = absurd (omega arith)
+obeys-snoc f (x ∷ ys) [] y k e = absurd (omega arith)
+obeys-snoc f (x ∷ ys) (m ∷ ns) y k e =
+    ap (λ b. obeysMasks f x m && b) (obeys-snoc f ys ns y k (omega arith)) ∙ sym (and-assoc (obeysMasks f x m) (obeysAll f ys ns) (obeysMasks f y k))
+
+module _ {n : ℕ} {ys ns : List ℕ} {on off : ℕ} (posed : Posed n ys ns on off) where
+  -- a model that obeys one rule more, and back
+  fewer-rules : (y k f : ℕ) → Model n (ys ++ (y ∷ [])) (ns ++ (k ∷ [])) on off f → Model n ys ns on off f × (obeysMasks f y k ≡ true)
+  fewer-rules y k f m =
+      let t = and-both _ _ (sym (obeys-snoc f ys ns y k (posed .paired)) ∙ m .obeyed) in
+      (model-rules m (t .0), t .1)
+
+  more-rules : (y k f : ℕ) → Model n ys ns on off f → obeysMasks f y k ≡ true → Model n (ys ++ (y ∷ [])) (ns ++ (k ∷ [])) on off f
+  more-rules y k f m e = model-rules m (obeys-snoc f ys ns y k (posed .paired) ∙ rw (m .obeyed, e) refl)
+
+  -- what the search with one rule more says of the kept literals
+  pub denial : (kept : LiteralSet) (r : SearchResult) → Searched n (ys ++ (kept .no ∷ [])) (ns ++ (kept .yes ∷ [])) on off r → Denied n ys ns on off kept r
+  denial kept (Found m) s =
+      let t = fewer-rules (kept .no) (kept .yes) m (s .found) in record { said = (t .0, obeys-denies kept m (t .1)) }
+  denial kept Nothing s = record { said = λ f m d. s .found .none f (more-rules (kept .no) (kept .yes) f m (denies-obeys kept f d)) }

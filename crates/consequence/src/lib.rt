@@ -1,20 +1,26 @@
-// The consequence: the literals over choices that a set of literals forces with the rules. It is document 003's
-// Algorithm 2: one model, then models that deny some kept literal, intersecting until no such model is left.
+// The consequence: the literals over choices that a set of literals forces with the rules. It is document 003's Algorithm 2,
+// OptimalPropagate; a comment at each line names the line of the algorithm that it is.
+// It differs from the paper in what is asked: the first satisfiability answer (line 1) is tested, because a book without a model
+// is refused, and the paper's U is the choices, so that literals over choices only are kept. It differs in how the clause of
+// line 5 is put: the search keeps no clause from one call to the next, so that the clause is one rule more for one search, which
+// wants no blocking variable (lines 3 and 8), and the clauses of earlier rounds are left out, because the last one implies them.
 ghost use mathlib.Core.Path.{_≡_};
 ghost use mathlib.Core.List.{[], _∷_, _++_};
 ghost use Prim.Native.Nat.{_+_, _^_, _<_, _≤_};
 ghost use lib.ListN.{length, take};
 ghost use Rattle.problem.specs.Limits.{mostRules};
 ghost use Rattle.sat.specs.Contracts.{Posed};
-ghost use Rattle.consequence.specs.Contracts.{Choosing, Denied, Narrowed, Concluded};
+ghost use Rattle.consequence.specs.Algorithm2.{overChoices, inBoth};
+ghost use Rattle.consequence.specs.Contracts.{Denied, Concluded};
 use literals::LiteralSet;
 use problem::MaskedProblem;
 use sat::Partial;
 use sat::SearchResult;
 
+// That there is no model, or the literals kept at the end, and how many models were found for it.
 pub enum Consequence {
     NoModel,
-    Forced(LiteralSet),
+    Forced { kept: LiteralSet, models: u32 },
 }
 
 // The masks, and one more after the last.
@@ -28,8 +34,8 @@ fn with_one_more(masks: &[u64], last: u64) -> [u64; MaskedProblem::RULES_AND_ONE
     all
 }
 
-// A model that denies some literal of a set: one more rule asks for it. The values that deny the set are preferred,
-// so that few models are wanted.
+// A model that denies some literal of a set, or that there is none. The values that deny the set are preferred, so that few
+// models are wanted.
 fn deny(n: u32, yes: &[u64], no: &[u64], p: Partial, kept: LiteralSet) -> SearchResult
     requires { ⌜ Posed n (now yes) (now no) (p .on) (p .off) ⌝ }
     requires { ⌜ length (now yes) ≤ mostRules ⌝ }
@@ -37,31 +43,31 @@ fn deny(n: u32, yes: &[u64], no: &[u64], p: Partial, kept: LiteralSet) -> Search
     requires { ⌜ kept .no < 2 ^ n ⌝ }
     ensures { λ r. ⌜ Denied n (now (yes .entry)) (now (no .entry)) (p .on) (p .off) kept r ⌝ }
 {
+    // 5: C ← C ∧ (¬bᵢ ∨ ⋁ over x ∈ μ of ¬x)
     let more_yes = with_one_more(yes, kept.no);
     let more_no = with_one_more(no, kept.yes);
     let rules = yes.len() + 1;
+    // 6: sat?, μ' ← SAT(I ∧ {bᵢ})
     sat::search(n, &more_yes[..rules], &more_no[..rules], p, kept.no)
 }
 
-// From the first model on: the literals over choices that all models have.
-fn narrow(n: u32, yes: &[u64], no: &[u64], choices: u64, p: Partial, first: u64) -> LiteralSet
-    requires { ⌜ Choosing n (now yes) (now no) choices (p .on) (p .off) first ⌝ }
-    ensures { λ r. ⌜ Narrowed n (now (yes .entry)) (now (no .entry)) choices (p .on) (p .off) r ⌝ }
+// The literals over choices that are true in a model.
+fn over_choices(m: u64, choices: u64) -> LiteralSet
+    ensures { λ r. ⌜ r ≡ overChoices choices m ⌝ }
 {
-    let mut kept = LiteralSet {
-        yes: sets::intersection(first, choices),
-        no: sets::difference(choices, first),
-    };
-    loop {
-        match deny(n, yes, no, p, kept) {
-            SearchResult::Nothing => return kept,
-            SearchResult::Found(m) => {
-                kept = LiteralSet {
-                    yes: sets::intersection(m, kept.yes),
-                    no: sets::difference(kept.no, m),
-                };
-            }
-        }
+    LiteralSet {
+        yes: sets::intersection(m, choices),
+        no: sets::difference(choices, m),
+    }
+}
+
+// The literals that are in both sets.
+fn in_both(a: LiteralSet, b: LiteralSet) -> LiteralSet
+    ensures { λ r. ⌜ r ≡ inBoth a b ⌝ }
+{
+    LiteralSet {
+        yes: sets::intersection(a.yes, b.yes),
+        no: sets::intersection(a.no, b.no),
     }
 }
 
@@ -72,8 +78,25 @@ pub fn propagate(n: u32, yes: &[u64], no: &[u64], choices: u64, p: Partial) -> C
     requires { ⌜ choices < 2 ^ n ⌝ }
     ensures { λ r. ⌜ Concluded n (now (yes .entry)) (now (no .entry)) choices (p .on) (p .off) r ⌝ }
 {
-    match sat::search(n, yes, no, p, 0) {
-        SearchResult::Nothing => Consequence::NoModel,
-        SearchResult::Found(m) => Consequence::Forced(narrow(n, yes, no, choices, p, m)),
+    // 1: sat?, μ ← SAT(I)
+    let first = sat::search(n, yes, no, p, 0);
+    let SearchResult::Found(m) = first else {
+        return Consequence::NoModel;
+    };
+    // 2: μ ← {x | x ∈ μ : var(x) ∈ U}
+    let mut kept = over_choices(m, choices);
+    let mut models = 1u32;
+    // 4: while true do
+    loop {
+        // 5, 6: C ← C ∧ (¬bᵢ ∨ ⋁ over x ∈ μ of ¬x); sat?, μ' ← SAT(I ∧ {bᵢ})
+        let next = deny(n, yes, no, p, kept);
+        // 7: if ¬sat? then
+        let SearchResult::Found(m) = next else {
+            // 9: return μ
+            return Consequence::Forced { kept, models };
+        };
+        // 11: μ ← μ ∩ {x' | x' ∈ μ' : var(x') ∈ U}
+        kept = in_both(kept, over_choices(m, choices));
+        models = models + 1;
     }
 }

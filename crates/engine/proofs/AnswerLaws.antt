@@ -5,6 +5,7 @@ use mathlib.Core.Bool.{Bool, true, false, cond, true≢false}
 use mathlib.Core.List.{List}
 use Prim.Native.Nat.{ℕ, _^_, _<_}
 use native.Mathlib.Omega.{arith}
+use lib.Count.{ones-ones}
 use borrow.Author.Tests.{not-true, not-false}
 use Rattle.literals.specs.declared.LiteralSet.{LiteralSet}
 use Rattle.records.specs.Format.{Read, value, refused, OrderBook, readBook}
@@ -18,14 +19,16 @@ use Rattle.problem.specs.Problem.{problemOf, given}
 use Rattle.problem.specs.Masked.{maskedFrom}
 use Rattle.problem.specs.declared.MaskedProblem.{MaskedProblem}
 use Rattle.problem.proofs.BookLaws.{proper-book}
-use Rattle.consequence.specs.Meaning.{models, hasModel, consequenceOf, Theory, ModelOf}
+use Rattle.consequence.specs.Meaning.{models, hasModel, consequenceOf, Theory, theoryOf, ModelOf}
+use Rattle.consequence.specs.Algorithm2.{Narrowed}
 use Rattle.consequence.specs.Contracts.{Concluded}
 use Rattle.consequence.specs.Laws.Forcing.{none-contradicts}
 use Rattle.consequence.specs.Laws.Masks.{to-theory, none-to-theory}
 use Rattle.consequence.specs.Laws.Problems.{model-models, no-filling, consequence-demand}
+use Rattle.consequence.specs.Laws.Algorithm2.{narrowed-problem}
 use Rattle.consequence.specs.declared.Consequence.{Consequence}
 use Rattle.consequence.specs.declared.Consequence.the-variants as Consequence
-use Rattle.engine.specs.Calls.{withModel, ModelSays, consequenceAnswer, FillsIn, ConsequenceCall, ModelCall}
+use Rattle.engine.specs.Calls.{withModel, ModelSays, consequenceAnswer, FillsIn, FoundFor, ConsequenceCall, ModelCall}
 use Rattle.engine.specs.Contracts.{yesIn, noIn, theoryIn, FoundModel, FoundForced}
 use Rattle.engine.specs.declared.ModelAnswer.{ModelAnswer}
 use Rattle.engine.specs.declared.ModelAnswer.the-variants as ModelAnswer
@@ -36,10 +39,14 @@ use Rattle.engine.proofs.ProblemLaws.{theory-same, forced-same, contrad
 
 -- what `consequence::propagate` says of the problem, in the call's answer
 module _ (p : MaskedProblem) {r : Consequence} (c : Concluded (p .variables) (yesIn p) (noIn p) (p .choices) (p .facts .yes) (p .facts .no) r) where
-  pub forced-found : {two : LiteralSet} → r ≡ Consequence.Forced two → FoundForced p (ConsequenceAnswer.Forced two)
+  pub forced-found : {two : LiteralSet} {number : ℕ} → r ≡ Consequence.Forced two number → FoundForced p (ConsequenceAnswer.Forced two)
   forced-found e = let s = (rw e at c) .said in record {
-    said =
-        (s .0, ap₂ (λ (y : ℕ) (n : ℕ). record { yes = y; no = n }) (s .1 .yes-forced) (s .1 .no-forced));
+    said = record {
+      some-model = s .0;
+      forced = ap₂ (λ (y : ℕ) (n : ℕ). record { yes = y; no = n }) (s .1 .yes-forced) (s .1 .no-forced);
+      number = _;
+      narrowed = s .1 .narrowed;
+    };
   }
 
   pub none-found : r ≡ Consequence.NoModel → FoundForced p (ConsequenceAnswer.Refused 9 0)
@@ -76,9 +83,23 @@ module _ {b : OrderBook} (w : WellFormed b) (end : ℕ) where
   pub consequence-says : (r : ConsequenceAnswer) → FoundForced (maskedFrom (maskedBook b)) r → r ≡ consequenceAnswer (value b end)
   unfolding consequenceAnswer withModel
   consequence-says (ConsequenceAnswer.Forced two) f =
-      rw (not-false (hasModel (problemOf b)) (sym (contradicts-has w) ∙ f .said .0)) (ap ConsequenceAnswer.Forced (f .said .1 ∙ forced-same w))
+      rw (not-false (hasModel (problemOf b)) (sym (contradicts-has w) ∙ f .said .some-model)) (ap ConsequenceAnswer.Forced (f .said .forced ∙ forced-same w))
   consequence-says (ConsequenceAnswer.Refused number place) f =
       rw (not-true (hasModel (problemOf b)) (sym (contradicts-has w) ∙ f .said .2)) (ap₂ ConsequenceAnswer.Refused (f .said .0) (f .said .1))
+
+  -- the models found are the book's
+  pub found-for : (r : ConsequenceAnswer) → FoundForced (maskedFrom (maskedBook b)) r → FoundFor (value b end) r
+  unfolding problemOf
+  found-for (ConsequenceAnswer.Forced two) f =
+      let t = subst
+      (λ (t : Theory). Narrowed (problemOf b .variables) (problemOf b .choices) (ModelOf t (given (problemOf b) .yes) (given (problemOf b) .no))
+      (f .said .number) two) (theory-same w) (f .said .narrowed) in
+      record {
+        number = f .said .number;
+        narrowed = narrowed-problem (problemOf b) (proper-book w .facts-proper) t;
+        at-most = omega (arith, t .narrowing .at-most, ones-ones (b .header .choices));
+      }
+  found-for (ConsequenceAnswer.Refused number place) f = no-filling (problemOf b) (not-true (hasModel (problemOf b)) (sym (contradicts-has w) ∙ f .said .2))
 
 -- demand 2 of the answer
 fills-in : (s : List ℕ) (m : Read OrderBook) → readBook s ≡ m → (r : ConsequenceAnswer) → r ≡ consequenceAnswer m → FillsIn m r
@@ -95,11 +116,12 @@ fills-in s (value b end) e r c = go r (hasModel (problemOf b)) refl c
     go (ConsequenceAnswer.Refused number place) true m d = let z : _≡_ {A = ℕ} 0 1 = cc in absurd (omega arith)
     go (ConsequenceAnswer.Refused number place) false m d = no-filling (problemOf b) m
 
-pub consequence-call : {s : List ℕ} {r : ConsequenceAnswer} → r ≡ consequenceAnswer (readBook s) → ConsequenceCall s r
+pub consequence-call : {s : List ℕ} {r : ConsequenceAnswer} → r ≡ consequenceAnswer (readBook s) → FoundFor (readBook s) r → ConsequenceCall s r
 unfolding consequenceAnswer
-consequence-call {s} {r} e = record {
+consequence-call {s} {r} e f = record {
   said = e;
   demand-2 = fills-in s (readBook s) refl r e;
+  found = f;
   nine =
       rw e (nine-exactly (λ p. ConsequenceAnswer.Forced (consequenceOf p)) ConsequenceAnswer.Refused (λ n m p q d. cc) (λ p at d. other (consequenceOf p) d)
       (Unit {0}) s);
@@ -117,11 +139,13 @@ module _ {s : List ℕ} {r : Reading} where
   pub consequence-refused : {n p : ℕ} → r ≡ bookAnswer (readBook s) → r .verdict ≡ Verdict.Refused n p
       → ConsequenceCall s (ConsequenceAnswer.Refused n p)
   unfolding consequenceAnswer withModel
-  consequence-refused e f = consequence-call (rw (book-refused (readBook s) e f) refl)
+  consequence-refused e f = let b = book-refused (readBook s) e f in consequence-call (rw b refl) (rw b refl)
 
   module _ (t : Taken s r) {p : MaskedProblem} (e : p ≡ maskedFrom (r .book)) where
     pub model-taken : {a : ModelAnswer} → FoundModel p a → ModelCall s a
     model-taken {a} f = model-call (rw (t .read .said) (model-says (t .well) (t .read .end) a (rw (same-problem t e) at f)))
 
     pub consequence-taken : {a : ConsequenceAnswer} → FoundForced p a → ConsequenceCall s a
-    consequence-taken {a} f = consequence-call (rw (t .read .said) (consequence-says (t .well) (t .read .end) a (rw (same-problem t e) at f)))
+    consequence-taken {a} f =
+        let g = (rw (same-problem t e) at f) in
+        consequence-call (rw (t .read .said) (consequence-says (t .well) (t .read .end) a g)) (rw (t .read .said) (found-for (t .well) (t .read .end) a g))

@@ -84,7 +84,7 @@ module _ (p : MaskedProblem) {r : ConsequenceAnswer} where
 
   pub found-set : {two : LiteralSet} → FoundForced p r → r ≡ ConsequenceAnswer.Forced two
       → (contradicts (theoryIn p) (p .facts .yes) (p .facts .no) ≡ false) × (two ≡ forcedIn p)
-  found-set f e = (rw e at f) .said
+  found-set f e = let s = (rw e at f) .said in (s .some-model, s .forced)
 
 pub forced-by : (p : MaskedProblem) → ForcedBy (theoryIn p) (forcedIn p) (p .facts)
 forced-by p = record { yes-forced = refl; no-forced = refl }

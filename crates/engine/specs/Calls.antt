@@ -3,7 +3,7 @@
 use mathlib.Core.Path.{_≡_}
 use mathlib.Core.Bool.{Bool, true, false, cond, _&&_}
 use mathlib.Core.List.{List, _++_}
-use Prim.Native.Nat.{ℕ, _^_, _≤_, _<_}
+use Prim.Native.Nat.{ℕ, _+_, _^_, _≤_, _<_}
 use lib.Dec.{ltb}
 use lib.ListN.{length, take, drop}
 use Rattle.sets.specs.Sets.{subset}
@@ -13,6 +13,7 @@ use Rattle.records.specs.Format.{Read, value, refused, OrderBook, readBook}
 use Rattle.problem.specs.Problem.{Problem, problemOf, given}
 use Rattle.consequence.specs.Meaning.{models, hasModel, consequenceOf}
 use Rattle.consequence.specs.Demand2.{Demand2, NoFilling}
+use Rattle.consequence.specs.Algorithm2.{ModelFilling, Narrowed}
 use Rattle.step.specs.Meaning.{questionOf, Answer, nothingLeft, step, stepOf}
 use Rattle.step.specs.IsStep.{Between, IsStep}
 use Rattle.log_form.specs.Format.{Log, logBytes}
@@ -77,10 +78,22 @@ FillsIn (value b end) (ConsequenceAnswer.Forced two) = Demand2 (problemOf b) two
 FillsIn (value b end) (ConsequenceAnswer.Refused number place) = NoFilling (problemOf b)
 FillsIn (refused number place) r = r ≡ ConsequenceAnswer.Refused number place
 
+-- Algorithm 2 of what is filled in (E3): so many models of the book were found, at most U + 1, and what is filled in is what they have in common over choices.
+pub record FoundModels (b : OrderBook) (two : LiteralSet) : Type 0 where
+  pub number : ℕ
+  pub narrowed : Narrowed (problemOf b .variables) (problemOf b .choices) (ModelFilling (problemOf b)) number two
+  pub at-most : number ≤ b .header .choices + 1
+
+abbrev pub FoundFor : Read OrderBook → ConsequenceAnswer → Type 0
+FoundFor (value b end) (ConsequenceAnswer.Forced two) = FoundModels b two
+FoundFor (value b end) (ConsequenceAnswer.Refused number place) = NoFilling (problemOf b)
+FoundFor (refused number place) r = r ≡ ConsequenceAnswer.Refused number place
+
 -- The contract of `consequence`.
 pub record ConsequenceCall (s : List ℕ) (r : ConsequenceAnswer) : Type 0 where
   pub said : r ≡ consequenceAnswer (readBook s)
   pub demand-2 : FillsIn (readBook s) r
+  pub found : FoundFor (readBook s) r
   pub nine : NineExactly ConsequenceAnswer.Refused (Unit {0}) (readBook s) r
 
 -- ---- the next step

@@ -12,7 +12,8 @@ use Rattle.sat.specs.Contracts.{Posed}
 use Rattle.problem.specs.Limits.{mostRules}
 use Rattle.problem.specs.Problem.{costOf}
 use Rattle.problem.specs.declared.MaskedProblem.{MaskedProblem}
-use Rattle.consequence.specs.Meaning.{Theory, contradicts, yesForced, noForced}
+use Rattle.consequence.specs.Meaning.{Theory, contradicts, yesForced, noForced, ModelOf}
+use Rattle.consequence.specs.Algorithm2.{Narrowed}
 use Rattle.consequence.specs.Contracts.{maskTheory}
 use Rattle.step.specs.Meaning.{Question, asking, Answer, stepOf}
 use Rattle.step.specs.Contracts.{Asked}
@@ -59,8 +60,15 @@ ModelSaid p (ModelAnswer.Refused number place) = (number ≡ 9) × (place ≡ 0)
 pub record FoundModel (p : MaskedProblem) (r : ModelAnswer) : Type 0 where
   pub said : ModelSaid p r
 
+-- What the given facts force, and that it was worked out by Algorithm 2, of so many models.
+pub record ForcedFound (p : MaskedProblem) (r : LiteralSet) : Type 0 where
+  pub some-model : contradicts (theoryIn p) (p .facts .yes) (p .facts .no) ≡ false
+  pub forced : r ≡ forcedIn p
+  pub number : ℕ
+  pub narrowed : Narrowed (p .variables) (p .choices) (ModelOf (theoryIn p) (p .facts .yes) (p .facts .no)) number r
+
 abbrev pub ForcedSaid : MaskedProblem → ConsequenceAnswer → Type 0
-ForcedSaid p (ConsequenceAnswer.Forced r) = (contradicts (theoryIn p) (p .facts .yes) (p .facts .no) ≡ false) × (r ≡ forcedIn p)
+ForcedSaid p (ConsequenceAnswer.Forced r) = ForcedFound p r
 ForcedSaid p (ConsequenceAnswer.Refused number place) = (number ≡ 9) × (place ≡ 0) × (contradicts (theoryIn p) (p .facts .yes) (p .facts .no) ≡ true)
 
 pub record FoundForced (p : MaskedProblem) (r : ConsequenceAnswer) : Type 0 where

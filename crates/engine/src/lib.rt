@@ -142,7 +142,7 @@ fn propagate(p: MaskedProblem) -> ConsequenceAnswer
         off: p.facts.no,
     };
     match consequence::propagate(p.variables, &yes[..rules], &no[..rules], p.choices, given) {
-        Consequence::Forced(set) => ConsequenceAnswer::Forced(set),
+        Consequence::Forced { kept, models: _ } => ConsequenceAnswer::Forced(kept),
         Consequence::NoModel => ConsequenceAnswer::Refused {
             number: 9,
             place: 0,

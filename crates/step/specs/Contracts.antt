@@ -16,7 +16,7 @@ use Rattle.sat.specs.Meaning.{Model}
 use Rattle.sat.specs.Contracts.{Posed}
 use Rattle.problem.specs.Limits.{mostRules}
 use Rattle.consequence.specs.Meaning.{yesForced, noForced, NoModelOf}
-use Rattle.consequence.specs.Contracts.{maskTheory}
+use Rattle.consequence.specs.Contracts.{maskTheory, Propagated}
 use Rattle.problem.specs.Problem.{costOf, literalCost}
 use Rattle.step.specs.Meaning.{Question, asking, goals, againstOn, againstOff, candidateCost, Answer, nothingLeft, Step, step, stepFrom}
 use Rattle.witnesses.specs.declared.Aim.{Aim}
@@ -161,9 +161,13 @@ pub record Reasoned (n : ℕ) (ys ns : List ℕ) (ch : ℕ) (r : LiteralSet) : T
   pub choices-below : ch < 2 ^ n
   pub model : (f : ℕ) × Model n ys ns (r .yes) (r .no) f
 
+-- The new literals: what the reasons force, less what is known. What they force was worked out by Algorithm 2, of models of the rules and the reasons.
 pub record Learnt (n : ℕ) (ys ns : List ℕ) (ch : ℕ) (reasons k r : LiteralSet) : Type 0 where
   pub yes-new : r .yes ≡ diff (yesForced (maskTheory n ys ns ch) (reasons .yes) (reasons .no)) (k .yes)
   pub no-new : r .no ≡ diff (noForced (maskTheory n ys ns ch) (reasons .yes) (reasons .no)) (k .no)
+  pub forced : LiteralSet
+  pub number : ℕ
+  pub propagated : Propagated (maskTheory n ys ns ch) (reasons .yes) (reasons .no) forced number
 
 -- ---- the next step
 

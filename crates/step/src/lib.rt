@@ -238,9 +238,9 @@ fn learn(
     };
     match consequence::propagate(n, yes, no, choices, p) {
         Consequence::NoModel => known,
-        Consequence::Forced(forced) => LiteralSet {
-            yes: sets::difference(forced.yes, known.yes),
-            no: sets::difference(forced.no, known.no),
+        Consequence::Forced { kept, models: _ } => LiteralSet {
+            yes: sets::difference(kept.yes, known.yes),
+            no: sets::difference(kept.no, known.no),
         },
     }
 }

@@ -5,7 +5,7 @@ use Prim.Native.Nat.{_+_}
 use lib.ListN.{length, take, length-append}
 use denote.Ref.{now}
 use borrow.Author.Needs.{needs}
-use Rattle.consequence.proofs.DenyLaws.{posed-more}
+use Rattle.consequence.proofs.DenyLaws.{posed-more, denial}
 use Rattle.consequence.proofs.deny.Statement.{statement}
 use Rattle.consequence.proofs.deny.Tie as tie
 
@@ -27,7 +27,7 @@ search-requires c κs =
     rw (yes-more m, no-more m) (posed-more _ _ (p .0) (p .1 .1 .1) (p .1 .1 .0))
 
 returns : tie.Need-returns
-returns c = let m = c .before .before .before in record { searched = rw (yes-more m, no-more m) at (c .search .ensures) }
+returns c = let m = c .before .before .before in denial (start m .pre .0) _ _ (rw (yes-more m, no-more m) at (c .search .ensures))
 
 pub deny-spec : {M : Type 1} → statement M
 deny-spec =

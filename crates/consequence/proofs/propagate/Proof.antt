@@ -1,30 +1,27 @@
--- `consequence::propagate` meets its contract: no model, or what all models have in common. Assumes nothing.
+-- `consequence::propagate` meets its contract. The invariant: the models found so far, and that what is kept is what they have in common.
+-- Assumes nothing.
+use native.Mathlib.Omega.{arith}
 use borrow.Author.Needs.{needs}
-use Rattle.sat.specs.Laws.Searches.{searched-model, searched-none}
-use Rattle.consequence.specs.Laws.Forcing.{none-contradicts, model-contradicts}
-use Rattle.consequence.specs.Laws.Masks.{to-theory, none-to-theory}
+use Rattle.consequence.specs.Algorithm2.{size}
+use Rattle.consequence.proofs.NarrowLaws.{Round, number-most, round-laws}
 use Rattle.consequence.proofs.propagate.Statement.{statement}
 use Rattle.consequence.proofs.propagate.Tie as tie
 
-narrow-requires : tie.Need-narrow-requires
-narrow-requires c κs =
-    let p = c .before .before .before .before .before .before .pre in
-    record {
-      posed = p .0;
-      few = p .1 .0;
-      choices-below = p .1 .1;
-      model = searched-model (c .before .before .before .search .ensures) (c .before .m .given .1);
-    }
+abbrev Inv-loop : tie.InvT-loop
+Inv-loop n yes' no' choices p m kept₀ models₀ kept models = Round n yes' no' choices (p .on) (p .off) models kept
 
-returns-2 : tie.Need-returns-2
-returns-2 c =
-    let found = searched-model (c .before .before .before .before .search .ensures) (c .before .before .m .given .1) in
-    record { said = (model-contradicts _ _ _ _ (to-theory _ found), c .narrow .ensures) }
+abbrev μ-loop : tie.MeasureT-loop
+μ-loop n yes' no' choices p m kept₀ models₀ kept models = size kept
+
+add-models : tie.Need-add-models Inv-loop μ-loop
+add-models c =
+    let l = c .before .before .before .before .before .before in
+    let p = l .before .before .before .before .before .before .before .before .pre in
+    record { fits = omega (arith, number-most (l .loop .inv) (p .1 .1), p .0 .small) }
 
 pub propagate-spec : {M : Type 1} → statement M
 propagate-spec =
-    tie.close (tie.spec (λ c κs. search needs) (λ c. search needs) (λ c. search needs) narrow-requires
-    (λ c.
-    let none = searched-none (c .before .before .search .ensures) (c .enum-told .given .1) in
-    record { said = none-contradicts _ _ _ (none-to-theory _ none) })
-    returns-2)
+    tie.close (tie.spec Inv-loop μ-loop (λ c κs. search needs) (λ c. search needs) (λ c. search needs) (λ c. search (needs, round-laws))
+    (λ c κs. search needs) (λ c. search (needs, round-laws)) (λ c κs. search (needs, round-laws)) (λ c. search needs) (λ c. search needs)
+    (λ c. search (needs, round-laws)) (λ c κs. search needs) (λ c κs. search needs) add-models (λ c. search (needs, round-laws))
+    (λ c. search (needs, round-laws)))
