@@ -1,9 +1,10 @@
 // The consequence: the literals over choices that a set of literals forces with the rules. It is document 003's Algorithm 2,
 // OptimalPropagate; a comment at each line names the line of the algorithm that it is.
-// It differs from the paper in what is asked: the first satisfiability answer (line 1) is tested, because a book without a model
-// is refused, and the paper's U is the choices, so that literals over choices only are kept. It differs in how the clause of
-// line 5 is put: the search keeps no clause from one call to the next, so that the clause is one rule more for one search, which
-// wants no blocking variable (lines 3 and 8), and the clauses of earlier rounds are left out, because the last one implies them.
+// It differs from the paper in what is asked and answered: the first satisfiability answer (line 1) is tested, because a book
+// without a model is refused; the paper's U is the choices, so that literals over choices only are kept; and the models are
+// counted, so that it can be said how many were found. It differs in how the clause of line 5 is put: the search keeps no
+// clause from one call to the next, so that the clause is one rule more for one search, which wants no blocking variable (lines
+// 3 and 8), and the clauses of earlier rounds are left out, because the last one implies them.
 ghost use mathlib.Core.Path.{_≡_};
 ghost use mathlib.Core.List.{[], _∷_, _++_};
 ghost use Prim.Native.Nat.{_+_, _^_, _<_, _≤_};
@@ -86,12 +87,14 @@ pub fn propagate(n: u32, yes: &[u64], no: &[u64], choices: u64, p: Partial) -> C
     // 2: μ ← {x | x ∈ μ : var(x) ∈ U}
     let mut kept = over_choices(m, choices);
     let mut models = 1u32;
+    // 3: bᵢ ← a new blocking variable (none is wanted)
     // 4: while true do
     loop {
         // 5, 6: C ← C ∧ (¬bᵢ ∨ ⋁ over x ∈ μ of ¬x); sat?, μ' ← SAT(I ∧ {bᵢ})
         let next = deny(n, yes, no, p, kept);
         // 7: if ¬sat? then
         let SearchResult::Found(m) = next else {
+            // 8: add clause (¬bᵢ) to SAT solver (the clause is gone with its search)
             // 9: return μ
             return Consequence::Forced { kept, models };
         };

@@ -113,8 +113,8 @@ fn search_model(p: MaskedProblem) -> ModelAnswer
     }
 }
 
-// The consequence of the book: demand 2.
-// Ruled out: a fixed consequence; a consequence with a helper in it.
+// The consequence of the book: demand 2, and E3's models.
+// Ruled out: a fixed consequence; a consequence with a helper in it; what is kept one model before the last.
 pub fn consequence(s: &[u8]) -> ConsequenceAnswer
     ensures { λ r. ⌜ ConsequenceCall (now (s .entry)) r ⌝ }
 {

@@ -47,13 +47,9 @@ digit-less true false false = refl
 digit-less false true c = refl
 digit-less false false c = refl
 
-digit-not : (a b c : Bool) → digit (a && (not b && c)) ≡ digit (a && c) - digit b
-digit-not true true true = refl
-digit-not true true false = refl
-digit-not true false true = refl
-digit-not true false false = refl
-digit-not false true c = refl
-digit-not false false c = refl
+digit-not : (b : Bool) → digit (not b) ≡ 1 - digit b
+digit-not true = refl
+digit-not false = refl
 
 digit-all : (a : Bool) → digit (a && true) ≡ digit a
 digit-all true = refl
@@ -103,11 +99,14 @@ module _ (n choices : ℕ) (below : choices < 2 ^ n) where
   common-no m found =
       ext-below n _ _ (collect-lt n _) (diff-lt n _ m (collect-lt n _))
       (λ v h.
-      collect-digit n _ v h ∙ digit-not (has choices v) (has m v) (inEvery found (negsuc v))
+      collect-digit n _ v h ∙ digit-less (has choices v) (not (has m v)) (inEvery found (negsuc v))
       ∙ omega (
         arith,
         bit-diff (collect n (λ u. has choices u && inEvery found (negsuc u))) m v,
+        bit-le (collect n (λ u. has choices u && inEvery found (negsuc u))) v,
+        digit-not (has m v),
         has-digit m v,
+        bit-le m v,
         collect-digit n (λ u. has choices u && inEvery found (negsuc u)) v h,
       ))
 
