@@ -10,7 +10,7 @@ use Rattle.sat.specs.Laws.Searches.{searched-model, searched-none}
 use Rattle.sat.specs.declared.SearchResult.{SearchResult}
 use Rattle.sat.specs.declared.SearchResult.the-variants.{Found, Nothing}
 use Rattle.consequence.specs.Meaning.{ModelOf}
-use Rattle.consequence.specs.Algorithm2.{commonYes, commonNo, commonOf, overChoices, inBoth, keptAfter, size, Denies, FoundInTurn, Narrowing, Narrowed}
+use Rattle.consequence.specs.Algorithm2.{commonYes, commonNo, overChoices, inBoth, size, Denies, FoundInTurn, Narrowing, Narrowed}
 use Rattle.consequence.specs.Contracts.{maskTheory, Denied, Concluded}
 use Rattle.consequence.specs.Laws.Common.{common-one, common-more, kept-common, takes-one-out}
 use Rattle.consequence.specs.Laws.Algorithm2.{found-bounded, one-more-found, narrowed-forced}
@@ -57,7 +57,8 @@ module _ {n : ℕ} {ys ns : List ℕ} {ch on off : ℕ} (below : ch < 2 ^ n) whe
         → Concluded n ys ns ch on off (Forced kept number)
     round-last s g e =
         let left = subst (Denied n ys ns on off kept) e d .said in
-        let end : Narrowed n ch (ModelOf (maskTheory n ys ns ch) on off) number kept = record { narrowing = w; none-left = λ f m x. left f (of-theory ch m) x } in
+        let end : Narrowed n ch (ModelOf (maskTheory n ys ns ch) on off) number kept =
+        record { narrowing = w; none-left = λ f m x. left f (of-theory ch m) x } in
         let forced = narrowed-forced (maskTheory n ys ns ch) on off end in
         record {
           said = (

@@ -19,7 +19,7 @@ use Rattle.problem.specs.Problem.{problemOf, given}
 use Rattle.problem.specs.Masked.{maskedFrom}
 use Rattle.problem.specs.declared.MaskedProblem.{MaskedProblem}
 use Rattle.problem.proofs.BookLaws.{proper-book}
-use Rattle.consequence.specs.Meaning.{models, hasModel, consequenceOf, Theory, theoryOf, ModelOf}
+use Rattle.consequence.specs.Meaning.{models, hasModel, consequenceOf, Theory, ModelOf}
 use Rattle.consequence.specs.Algorithm2.{Narrowed}
 use Rattle.consequence.specs.Contracts.{Concluded}
 use Rattle.consequence.specs.Laws.Forcing.{none-contradicts}

@@ -127,8 +127,8 @@ module _ {n : ℕ} {ys ns : List ℕ} {ch : ℕ} {reasons k : LiteralSet} {o : C
       subst (Concluded n ys ns ch (reasons .yes) (reasons .no)) e s .said in
       absurd (true≢false (sym no-model ∙ model-contradicts (maskTheory n ys ns ch) (reasons .yes) (reasons .no) (x .model .0) (to-theory ch (x .model .1))))
 
-  pub learnt : {forced : LiteralSet} {number a b : ℕ} → Concluded n ys ns ch (reasons .yes) (reasons .no) o → o ≡ Forced forced number → a ≡ diff (forced .yes) (k .yes)
-      → b ≡ diff (forced .no) (k .no) → Learnt n ys ns ch reasons k (record { yes = a; no = b })
+  pub learnt : {forced : LiteralSet} {number a b : ℕ} → Concluded n ys ns ch (reasons .yes) (reasons .no) o → o ≡ Forced forced number
+      → a ≡ diff (forced .yes) (k .yes) → b ≡ diff (forced .no) (k .no) → Learnt n ys ns ch reasons k (record { yes = a; no = b })
   learnt s e p q =
       let f = subst (Concluded n ys ns ch (reasons .yes) (reasons .no)) e s .said .1 in
       record {
