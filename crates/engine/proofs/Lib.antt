@@ -1,5 +1,5 @@
 mod NineLaws
-mod ProblemLaws
+pub mod ProblemLaws
 mod AnswerLaws
 mod StepLaws
 pub mod DimacsLaws

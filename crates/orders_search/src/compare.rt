@@ -1,4 +1,5 @@
-// The engine's book, model and consequence held against the reckoning.
+// The engine's book, model, consequence and number of models held against the reckoning.
+use crate::models_found;
 use crate::tally;
 use crate::tally::Tally;
 use brute_force::fillings;
@@ -97,7 +98,8 @@ fn asked(t: Tally, s: &[u8], b: Reckoned, due: Due) -> Tally {
     let t = tally::noted(t, tally::READING, read);
     let t = tally::noted(t, tally::MODEL, model_agrees(s, b, due));
     let forced = same_consequence(consequence_said(s), due);
-    tally::noted(t, tally::CONSEQUENCE, forced)
+    let t = tally::noted(t, tally::CONSEQUENCE, forced);
+    models_found::asked(t, s, models_found::bounds_of(due, b.choices))
 }
 
 // One more book.
@@ -118,6 +120,12 @@ pub fn count(t: Tally, d: Draft) -> Tally {
         return tally::seen(t, tally::LEFT_OUT, true);
     }
     let room = obeying.room;
-    let due = due_of(b, fillings::part(&room, obeying.count));
-    asked(seen(t, b, due), s, b, due)
+    let all = fillings::part(&room, obeying.count);
+    let due = due_of(b, all);
+    asked(
+        models_found::reckoned(seen(t, b, due), all, b, due),
+        s,
+        b,
+        due,
+    )
 }

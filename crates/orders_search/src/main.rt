@@ -9,6 +9,8 @@ mod counter_steps;
 mod empty_rules;
 mod groups;
 mod logged;
+mod models_found;
+mod most_models;
 mod report;
 mod report_pairs;
 mod retyped;
@@ -31,7 +33,7 @@ fn kind(form: Form, variables: u8, choices: u8, cost: u16) -> Kind {
     }
 }
 
-// Readings, models and consequences.
+// Readings, models, consequences and how many models these take.
 fn compared() {
     let any = kind(Form::Any, 10, 10, 999);
     let t = groups::each(tally::none(), Task::Compared, 20000, any, 88172645463325252);
@@ -66,6 +68,17 @@ fn counter() {
 fn without_literals() {
     let t = empty_rules::all(tally::none());
     report::all(b"books with a rule of no literals:\n", t);
+}
+
+// Books in which at most one choice may be yes, then those in which at most one may be no.
+fn many_models() {
+    let t = most_models::all(tally::none());
+    report::all(
+        b"books in which one more model is found than there are choices:\n",
+        t,
+    );
+    let t = most_models::mirrored(tally::none());
+    report::all(b"books in which at most one choice may be no:\n", t);
 }
 
 // Books with a model planted: so many variables and choices or a few fewer, and costs up to `cost`.
@@ -146,6 +159,7 @@ fn main() {
     compared();
     counter();
     without_literals();
+    many_models();
     walked();
     walked_large();
     retyped_pairs();

@@ -46,6 +46,21 @@ fn write_log_group(group: usize) {
     }
 }
 
+// The name of a group of numbers of models.
+fn write_models_group(group: usize) {
+    match group {
+        tally::MODELS_FOUND => write(b"models found, within their bounds"),
+        tally::MODELS_RECKONED => write(
+            b"models of a reckoned run, within their bounds, and what it keeps",
+        ),
+        tally::ONE_MORE => write(b"models found, one more than the choices"),
+        tally::ONE_MORE_GIVEN => write(
+            b"models found, one more than the choices that the facts leave open",
+        ),
+        _ => write(b"models of a reckoned run, one more than the choices left open"),
+    }
+}
+
 fn write_group(group: usize) {
     if group < tally::ON_THE_WAY {
         write_book_group(group);
@@ -53,8 +68,10 @@ fn write_group(group: usize) {
         write_step_group(group);
     } else if group < tally::SAME_TERMS {
         write_log_group(group);
-    } else {
+    } else if group < tally::MODELS_FOUND {
         report_pairs::write_group(group);
+    } else {
+        write_models_group(group);
     }
 }
 
@@ -118,10 +135,24 @@ fn logs_by_steps(t: Tally) {
     write(b"\n");
 }
 
+// How many models there were in all books together.
+fn models_in_all(t: Tally) {
+    write(b"models found in all: ");
+    number(t.seen[tally::FOUND_IN_ALL]);
+    write(b", of the reckoned runs: ");
+    number(t.seen[tally::RECKONED_IN_ALL]);
+    write(b", at most: ");
+    number(t.seen[tally::MOST_IN_ALL]);
+    write(b"\n");
+}
+
 // All of them under a heading, with an empty line after them.
 pub fn all(heading: &[u8], t: Tally) {
     write(heading);
     results(t);
+    if t.tried[tally::MODELS_FOUND] > 0 {
+        models_in_all(t);
+    }
     counts(t);
     if t.tried[tally::WHOLE_LOG] > 0 {
         logs_by_steps(t);

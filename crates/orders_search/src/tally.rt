@@ -61,7 +61,19 @@ pub const SAME_LOG: usize = 23;
 
 pub const ONE_SHORT: usize = 24;
 
-pub const GROUPS: usize = ONE_SHORT + 1;
+// Models found for the consequence: by the engine and by the reckoned run, each held against its bounds; one more than the
+// choices, and with facts one more than the choices that they leave open; the same of the reckoned run.
+pub const MODELS_FOUND: usize = 25;
+
+pub const MODELS_RECKONED: usize = 26;
+
+pub const ONE_MORE: usize = 27;
+
+pub const ONE_MORE_GIVEN: usize = 28;
+
+pub const ONE_MORE_RECKONED: usize = 29;
+
+pub const GROUPS: usize = ONE_MORE_RECKONED + 1;
 
 // Logs of no step, of one, two, .. and of seven or more.
 pub const STEPS: usize = 0;
@@ -121,7 +133,14 @@ pub const RETYPED: usize = OTHERS + 3;
 
 pub const CHANGED: usize = RETYPED + WAYS;
 
-pub const KINDS: usize = CHANGED + WAYS;
+// Models of all books together: those that the engine found, those of the reckoned run, and the most that may be found.
+pub const FOUND_IN_ALL: usize = CHANGED + WAYS;
+
+pub const RECKONED_IN_ALL: usize = FOUND_IN_ALL + 1;
+
+pub const MOST_IN_ALL: usize = FOUND_IN_ALL + 2;
+
+pub const KINDS: usize = FOUND_IN_ALL + 3;
 
 // Of each group: how often the engine was asked, and how often its answer was not what is due. Of each kind of book, step
 // or log, as reckoned: how many there were.
@@ -170,6 +189,15 @@ pub fn seen(mut t: Tally, kind: usize, so: bool) -> Tally {
     if kind < KINDS {
         let n = t.seen[kind];
         t.seen[kind] = more(n, so);
+    }
+    t
+}
+
+// So many more of a kind.
+pub fn added(mut t: Tally, kind: usize, number: u32) -> Tally {
+    if kind < KINDS {
+        let n = t.seen[kind];
+        t.seen[kind] = std::num::wrapping_add_u64(n, number as u64);
     }
     t
 }

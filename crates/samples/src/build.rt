@@ -121,7 +121,7 @@ fn long_rules(d: Draft, rules: u8) -> Draft {
 }
 
 // Facts over the first choices, all no.
-fn facts_no(d: Draft, choices: u8) -> Draft {
+pub fn facts_no(d: Draft, choices: u8) -> Draft {
     let mut made = d;
     for i in 0..choices {
         made = fact(made, negated(std::num::wrapping_add_u8(i, 1)));
