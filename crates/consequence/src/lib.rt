@@ -10,6 +10,7 @@ ghost use mathlib.Core.List.{[], _∷_, _++_};
 ghost use Prim.Native.Nat.{_+_, _^_, _<_, _≤_};
 ghost use lib.ListN.{length, take};
 ghost use Rattle.problem.specs.Limits.{mostRules};
+ghost use Rattle.problem.specs.Masked.{yesIn, noIn, Searchable};
 ghost use Rattle.sat.specs.Contracts.{Posed};
 ghost use Rattle.consequence.specs.Algorithm2.{overChoices, inBoth};
 ghost use Rattle.consequence.specs.Contracts.{Denied, Concluded};
@@ -102,4 +103,19 @@ pub fn propagate(n: u32, yes: &[u64], no: &[u64], choices: u64, p: Partial) -> C
         kept = in_both(kept, over_choices(m, choices));
         models = models + 1;
     }
+}
+
+// The same of a problem and its given facts.
+pub fn of_problem(p: MaskedProblem) -> Consequence
+    requires { ⌜ Searchable p ⌝ }
+    ensures { λ r. ⌜ Concluded (p .variables) (yesIn p) (noIn p) (p .choices) (p .facts .yes) (p .facts .no) r ⌝ }
+{
+    let yes = p.yes;
+    let no = p.no;
+    let rules = p.rules;
+    let given = Partial {
+        on: p.facts.yes,
+        off: p.facts.no,
+    };
+    propagate(p.variables, &yes[..rules], &no[..rules], p.choices, given)
 }

@@ -16,7 +16,7 @@ use Rattle.book.specs.declared.Verdict.the-variants as Verdict
 use Rattle.book.proofs.PartLaws.{book-refused}
 use Rattle.sat.specs.Laws.Fillings.{witness-some}
 use Rattle.problem.specs.Problem.{problemOf, given}
-use Rattle.problem.specs.Masked.{maskedFrom}
+use Rattle.problem.specs.Masked.{maskedFrom, yesIn, noIn}
 use Rattle.problem.specs.declared.MaskedProblem.{MaskedProblem}
 use Rattle.problem.proofs.BookLaws.{proper-book}
 use Rattle.consequence.specs.Meaning.{models, hasModel, consequenceOf, Theory, ModelOf}
@@ -29,7 +29,7 @@ use Rattle.consequence.specs.Laws.Algorithm2.{narrowed-problem}
 use Rattle.consequence.specs.declared.Consequence.{Consequence}
 use Rattle.consequence.specs.declared.Consequence.the-variants as Consequence
 use Rattle.engine.specs.Calls.{withModel, ModelSays, consequenceAnswer, FillsIn, FoundFor, ConsequenceCall, ModelCall}
-use Rattle.engine.specs.Contracts.{yesIn, noIn, theoryIn, FoundModel, FoundForced}
+use Rattle.engine.specs.Contracts.{theoryIn, FoundModel, FoundForced}
 use Rattle.engine.specs.declared.ModelAnswer.{ModelAnswer}
 use Rattle.engine.specs.declared.ModelAnswer.the-variants as ModelAnswer
 use Rattle.engine.specs.declared.ConsequenceAnswer.{ConsequenceAnswer}

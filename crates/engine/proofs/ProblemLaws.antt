@@ -5,8 +5,6 @@ use mathlib.Core.Bool.{not, Bool·not-not}
 use mathlib.Core.List.{List, map}
 use Prim.Native.Nat.{ℕ, _≤_}
 use native.Mathlib.Omega.{arith}
-use lib.ListN.{length, take}
-use lib.Seq.{length-take-le}
 use Rattle.sets.specs.Sets.{width}
 use Rattle.literals.specs.Truth.{yesMask, noMask}
 use Rattle.records.specs.Format.{OrderBook, readBook}
@@ -16,15 +14,14 @@ use Rattle.book.specs.declared.Reading.{Reading}
 use Rattle.book.specs.declared.Verdict.the-variants as Verdict
 use Rattle.book.proofs.PartLaws.{BookSaid, book-says}
 use Rattle.problem.specs.Problem.{problemOf}
-use Rattle.problem.specs.Masked.{maskedFrom}
+use Rattle.problem.specs.Masked.{maskedFrom, yesIn, noIn, Searchable}
 use Rattle.problem.proofs.BookLaws.{proper-book, room, masks-kept, proper-posed}
-use Rattle.problem.specs.Limits.{mostRules}
 use Rattle.problem.specs.declared.MaskedProblem.{MaskedProblem}
 use Rattle.consequence.specs.Meaning.{hasModel, consequenceOf, Theory, theoryOf, contradicts, yesForced, noForced}
 use Rattle.consequence.specs.Contracts.{maskTheory}
 use Rattle.consequence.specs.Laws.Masks.{same-theory}
 use Rattle.consequence.specs.Laws.Problems.{has-contradicts, yes-consequence, no-consequence}
-use Rattle.engine.specs.Contracts.{yesIn, noIn, theoryIn, forcedIn, Searchable, Steppable, Loggable}
+use Rattle.engine.specs.Contracts.{theoryIn, forcedIn, Steppable, Loggable}
 
 module _ {b : OrderBook} (w : WellFormed b) where
   -- the rules that the search is handed are those of the book
@@ -78,23 +75,6 @@ module _ {b : OrderBook} (w : WellFormed b) where
   pub loggable : Loggable (maskedFrom (maskedBook b)) (table (b .costs))
   unfolding problemOf
   loggable = record { steppable = steppable; yes-facts = proper-book w .yes-facts; no-facts = proper-book w .no-facts }
-
--- ---- the rules that are handed over
-
-module _ {p : MaskedProblem} (w : Searchable p) where
-  handed-length : (ms : List ℕ) → length ms ≡ mostRules → p .rules ≡ length (take (p .rules) ms)
-  handed-length ms e = sym (length-take-le _ _ (omega (arith, w .few-rules)))
-
-  pub yes-length : p .rules ≡ length (yesIn p)
-  yes-length = handed-length (p .yes) (w .yes-room)
-
-  pub no-length : p .rules ≡ length (noIn p)
-  no-length = handed-length (p .no) (w .no-room)
-
-  pub rules-short : length (yesIn p) ≤ mostRules
-  rules-short = omega (arith, yes-length, w .few-rules)
-
-pub ruleset rules-laws = (yes-length, no-length, rules-short)
 
 -- ---- the book that was read, where it is accepted
 

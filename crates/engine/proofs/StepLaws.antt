@@ -19,9 +19,10 @@ use Rattle.book.specs.declared.Verdict.the-variants as Verdict
 use Rattle.book.proofs.PartLaws.{book-refused}
 use Rattle.sat.specs.Laws.Assigns.{posed-with}
 use Rattle.problem.specs.Problem.{Problem, problemOf, given}
-use Rattle.problem.specs.Masked.{maskedFrom}
+use Rattle.problem.specs.Masked.{maskedFrom, yesIn, noIn}
 use Rattle.problem.specs.Proper.{ProperProblem}
 use Rattle.problem.proofs.BookLaws.{proper-book}
+use Rattle.problem.proofs.SearchableLaws.{rules-short}
 use Rattle.problem.specs.declared.MaskedProblem.{MaskedProblem}
 use Rattle.consequence.specs.Meaning.{models, hasModel, consequenceOf, Theory, theoryOf, contradicts}
 use Rattle.consequence.specs.Laws.Masks.{to-theory, of-theory}
@@ -39,13 +40,13 @@ use Rattle.log.specs.Laws.OneStep.{choices-below, forced}
 use Rattle.log.specs.Laws.Explains.{consistent}
 use Rattle.log.proofs.RunLaws.{of-parts}
 use Rattle.engine.specs.Calls.{withModel, between, stepSays, stepFor, stepAnswer, IsNext, StepCall}
-use Rattle.engine.specs.Contracts.{yesIn, noIn, theoryIn, forcedIn, FoundForced, stepIn, Steppable, StepReady}
+use Rattle.engine.specs.Contracts.{theoryIn, forcedIn, FoundForced, stepIn, Steppable, StepReady}
 use Rattle.engine.specs.declared.ConsequenceAnswer.{ConsequenceAnswer}
 use Rattle.engine.specs.declared.ConsequenceAnswer.the-variants as ConsequenceAnswer
 use Rattle.engine.specs.declared.StepAnswer.{StepAnswer}
 use Rattle.engine.specs.declared.StepAnswer.the-variants as StepAnswer
 use Rattle.engine.proofs.NineLaws.{nine-exactly}
-use Rattle.engine.proofs.ProblemLaws.{theory-same, forced-same, contradicts-has, Taken, same-problem, same-costs, rules-short}
+use Rattle.engine.proofs.ProblemLaws.{theory-same, forced-same, contradicts-has, Taken, same-problem, same-costs}
 
 -- ---- the flag of a test
 

@@ -3,14 +3,12 @@ use mathlib.Core.Path.{_≡_}
 use mathlib.Core.Bool.{true, false, cond}
 use mathlib.Core.List.{List}
 use Prim.Native.Nat.{ℕ, _^_, _≤_, _<_}
-use lib.ListN.{length, take}
 use Rattle.sets.specs.Sets.{Within}
 use Rattle.literals.specs.declared.LiteralSet.{LiteralSet}
 use Rattle.records.specs.Limits.{maxVariables, maxChoices, maxCost}
 use Rattle.sat.specs.Meaning.{Model, NoModel}
-use Rattle.sat.specs.Contracts.{Posed}
-use Rattle.problem.specs.Limits.{mostRules}
 use Rattle.problem.specs.Problem.{costOf}
+use Rattle.problem.specs.Masked.{yesIn, noIn, Searchable}
 use Rattle.problem.specs.declared.MaskedProblem.{MaskedProblem}
 use Rattle.consequence.specs.Meaning.{Theory, contradicts, yesForced, noForced, ModelOf}
 use Rattle.consequence.specs.Algorithm2.{Narrowed}
@@ -29,27 +27,12 @@ use Rattle.engine.specs.declared.ConsequenceAnswer.the-variants as Conse
 
 -- ---- the arguments
 
--- The masks of the rules, as the search is handed them.
-abbrev pub yesIn : MaskedProblem → List ℕ
-yesIn p = take (p .rules) (p .yes)
-
-abbrev pub noIn : MaskedProblem → List ℕ
-noIn p = take (p .rules) (p .no)
-
 -- The theory that the arguments are, and what the given facts force.
 abbrev pub theoryIn : MaskedProblem → Theory
 theoryIn p = maskTheory (p .variables) (yesIn p) (noIn p) (p .choices)
 
 abbrev pub forcedIn : MaskedProblem → LiteralSet
 forcedIn p = record { yes = yesForced (theoryIn p) (p .facts .yes) (p .facts .no); no = noForced (theoryIn p) (p .facts .yes) (p .facts .no) }
-
--- A problem that a search can be made of.
-pub record Searchable (p : MaskedProblem) : Type 0 where
-  pub few-rules : p .rules ≤ mostRules
-  pub yes-room : length (p .yes) ≡ mostRules
-  pub no-room : length (p .no) ≡ mostRules
-  pub choices-below : p .choices < 2 ^ p .variables
-  pub posed : Posed (p .variables) (yesIn p) (noIn p) (p .facts .yes) (p .facts .no)
 
 -- ---- one model, and the consequence
 

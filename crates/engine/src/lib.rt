@@ -5,9 +5,10 @@ ghost use lib.ListN.{length};
 ghost use Rattle.records.specs.Limits.{maxLog};
 ghost use Rattle.records.specs.Format.{readBook};
 ghost use Rattle.book.specs.Answer.{bookAnswer, tableAnswer};
+ghost use Rattle.problem.specs.Masked.{Searchable};
 ghost use Rattle.log.specs.Meaning.{runOf, logOf};
 ghost use Rattle.engine.specs.Calls.{ModelCall, ConsequenceCall, StepCall, LogCall, logged, LoggedAs};
-ghost use Rattle.engine.specs.Contracts.{Searchable, FoundModel, FoundForced, Loggable, LogReady, logIn, logQuestion};
+ghost use Rattle.engine.specs.Contracts.{FoundModel, FoundForced, Loggable, LogReady, logIn, logQuestion};
 ghost use Rattle.engine.specs.Dimacs.{DimacsCall};
 
 mod steps;
@@ -134,14 +135,7 @@ fn propagate(p: MaskedProblem) -> ConsequenceAnswer
     requires { ⌜ Searchable p ⌝ }
     ensures { λ r. ⌜ FoundForced p r ⌝ }
 {
-    let yes = p.yes;
-    let no = p.no;
-    let rules = p.rules;
-    let given = Partial {
-        on: p.facts.yes,
-        off: p.facts.no,
-    };
-    match consequence::propagate(p.variables, &yes[..rules], &no[..rules], p.choices, given) {
+    match consequence::of_problem(p) {
         Consequence::Forced { kept, models: _ } => ConsequenceAnswer::Forced(kept),
         Consequence::NoModel => ConsequenceAnswer::Refused {
             number: 9,

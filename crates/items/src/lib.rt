@@ -1,7 +1,6 @@
 // Sets of costed items: element v of a mask is item v, and `weights[v]` is what it weighs. What the search for a cheapest set
 // does with weights, whatever the items are.
-ghost use mathlib.Core.Path.{_≡_};
-ghost use Prim.Native.Nat.{_≤_, _<_};
+ghost use Prim.Native.Nat.{_<_};
 ghost use Rattle.items.specs.Contracts.{Rows, AtMostEach, Enough, TakenOff, Lighter, CheapestItem};
 
 // An item of a set that is not empty: the first of least weight.

@@ -2,7 +2,6 @@
 use crate::compare;
 use crate::compare::Tally;
 use samples::build;
-use samples::build::Draft;
 use samples::counter;
 use samples::edits;
 

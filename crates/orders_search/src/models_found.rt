@@ -1,37 +1,17 @@
 // How many models are found for the consequence, held against what the consequence as reckoned allows: the first model keeps
 // a literal over each choice, each one after it takes out at least one, and no literal of the consequence is taken out.
-ghost use Rattle.engine.specs.Contracts.{Searchable};
 use crate::compare::Due;
 use crate::tally;
 use crate::tally::Tally;
 use brute_force::algorithm2;
 use brute_force::fillings;
 use consequence::Consequence;
-use problem::MaskedProblem;
 use samples::reckon::Reckoned;
-use sat::Partial;
 
 // The fewest models and the most.
 pub struct Bounds {
     pub least: u32,
     pub most: u32,
-}
-
-// How many models the engine finds for a problem.
-fn found_for(p: MaskedProblem) -> u32
-    requires { ⌜ Searchable p ⌝ }
-{
-    let yes = p.yes;
-    let no = p.no;
-    let rules = p.rules;
-    let given = Partial {
-        on: p.facts.yes,
-        off: p.facts.no,
-    };
-    match consequence::propagate(p.variables, &yes[..rules], &no[..rules], p.choices, given) {
-        Consequence::Forced { kept: _, models } => models,
-        Consequence::NoModel => 0,
-    }
 }
 
 // How many models the engine finds for a book: 0 where it is refused or has none.
@@ -45,7 +25,10 @@ pub fn models_found(s: &[u8]) -> u32 {
         } => 0,
         book::Verdict::Accepted => {
             let b = reading.book;
-            found_for(problem::of_book(b))
+            match consequence::of_problem(problem::of_book(b)) {
+                Consequence::Forced { kept: _, models } => models,
+                Consequence::NoModel => 0,
+            }
         }
     }
 }

@@ -1,10 +1,12 @@
 -- A problem as the code holds it: each rule as two masks, in arrays with room for the most rules.
+use mathlib.Core.Path.{_≡_}
 use mathlib.Core.List.{List, _++_}
-use Prim.Native.Nat.{ℕ, _-_}
-use lib.ListN.{length, drop, replicate}
+use Prim.Native.Nat.{ℕ, _-_, _^_, _≤_, _<_}
+use lib.ListN.{length, take, drop, replicate}
 use Rattle.sets.specs.Sets.{full}
 use Rattle.records.specs.Limits.{maxRules}
 use Rattle.records.specs.declared.Book.{Book}
+use Rattle.sat.specs.Contracts.{Posed}
 use Rattle.problem.specs.Limits.{mostRules}
 use Rattle.problem.specs.declared.MaskedProblem.{MaskedProblem}
 
@@ -27,3 +29,18 @@ maskedFrom b =
       choices = full (b .choices);
       facts = record { yes = b .«facts_yes»; no = b .«facts_no» };
     }
+
+-- The masks of the rules, as a search is handed them.
+abbrev pub yesIn : MaskedProblem → List ℕ
+yesIn p = take (p .rules) (p .yes)
+
+abbrev pub noIn : MaskedProblem → List ℕ
+noIn p = take (p .rules) (p .no)
+
+-- A problem that a search can be made of.
+pub record Searchable (p : MaskedProblem) : Type 0 where
+  pub few-rules : p .rules ≤ mostRules
+  pub yes-room : length (p .yes) ≡ mostRules
+  pub no-room : length (p .no) ≡ mostRules
+  pub choices-below : p .choices < 2 ^ p .variables
+  pub posed : Posed (p .variables) (yesIn p) (noIn p) (p .facts .yes) (p .facts .no)

@@ -2,7 +2,7 @@
 use mathlib.Core.Path.{refl}
 use borrow.Author.Needs.{needs}
 use Rattle.sat.specs.Laws.Searches.{searched-model, searched-none}
-use Rattle.engine.proofs.ProblemLaws.{rules-laws}
+use Rattle.problem.proofs.SearchableLaws.{rules-laws}
 use Rattle.engine.proofs.search_model.Statement.{statement}
 use Rattle.engine.proofs.search_model.Tie as tie
 

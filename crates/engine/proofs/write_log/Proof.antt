@@ -1,6 +1,6 @@
 -- `engine::write_log` meets its contract. Assumes nothing.
 use borrow.Author.Needs.{needs}
-use Rattle.engine.proofs.ProblemLaws.{rules-laws}
+use Rattle.problem.proofs.SearchableLaws.{rules-laws}
 use Rattle.engine.proofs.LogLaws.{logged-written}
 use Rattle.engine.proofs.write_log.Statement.{statement}
 use Rattle.engine.proofs.write_log.Tie as tie

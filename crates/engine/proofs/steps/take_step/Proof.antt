@@ -2,7 +2,7 @@
 use borrow.Author.Needs.{needs}
 use mir.Syntax.{w8}
 use mir.Facts.{toZ-ofZ}
-use Rattle.engine.proofs.ProblemLaws.{rules-laws}
+use Rattle.problem.proofs.SearchableLaws.{rules-laws}
 use Rattle.engine.proofs.StepLaws.{says-step, says-nothing}
 use Rattle.engine.proofs.steps.take_step.Statement.{statement}
 use Rattle.engine.proofs.steps.take_step.Tie as tie

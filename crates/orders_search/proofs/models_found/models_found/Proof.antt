@@ -1,4 +1,4 @@
--- `orders_search::models_found::models_found` meets its contract. Assumes nothing.
+-- `orders_search::models_found::models_found` meets its contract: the problem of an accepted book can be searched. Assumes nothing.
 use borrow.Author.Needs.{needs}
 use Rattle.engine.proofs.ProblemLaws.{taken, taken-fits, taken-searchable}
 use Rattle.orders_search.proofs.models_found.models_found.Statement.{statement}
@@ -9,4 +9,4 @@ models-found-spec =
     tie.close (tie.spec (λ c κs. search needs) (λ c. search needs) (λ c. search needs)
     (λ c κs. taken-fits _ (c .before .before .before .read .ensures) (c .before .enum-told2 .given .1))
     (λ c κs. taken-searchable (taken (c .before .before .before .before .read .ensures) (c .before .before .enum-told2 .given .1)) (c .of-book .ensures))
-    (λ c. search needs) (λ c. search needs))
+    (λ c. search needs) (λ c. search needs) (λ c. search needs) (λ c. search needs) (λ c. search needs))
