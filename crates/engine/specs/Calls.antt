@@ -84,6 +84,7 @@ pub record FoundModels (b : OrderBook) (two : LiteralSet) : Type 0 where
   pub narrowed : Narrowed (problemOf b .variables) (problemOf b .choices) (ModelFilling (problemOf b)) number two
   pub at-most : number ≤ b .header .choices + 1
 
+-- The same of every answer: where there is none to be found, no filling is a model.
 abbrev pub FoundFor : Read OrderBook → ConsequenceAnswer → Type 0
 FoundFor (value b end) (ConsequenceAnswer.Forced two) = FoundModels b two
 FoundFor (value b end) (ConsequenceAnswer.Refused number place) = NoFilling (problemOf b)
