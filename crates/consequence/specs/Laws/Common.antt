@@ -12,7 +12,7 @@ use lib.IntN.{pos, negsuc}
 use Rattle.sets.specs.Sets.{bit, has, inter, diff, Within}
 use Rattle.sets.specs.Laws.Bits.{bit-le, bit-inter, bit-diff, inter-lt, diff-lt, ext, ext-below}
 use Rattle.sets.specs.Laws.Count.{ones-within, ones-less}
-use Rattle.sets.specs.Laws.Subset.{has-true, has-false, one-has, zero-has, within-refl, within-trans, within-bit, diff-in}
+use Rattle.sets.specs.Laws.Subset.{has-true, has-false, one-has, zero-has, within-refl, within-trans, within-bit, inter-in-left, diff-in}
 use Rattle.literals.specs.Literal.{Literal}
 use Rattle.literals.specs.Truth.{holds, obeysMasks}
 use Rattle.literals.specs.Laws.{obeys-yes, obeys-no, obeys-some}
@@ -57,15 +57,12 @@ digit-all false = refl
 
 -- ---- a mask in common with another
 
-in-left : (a b : ℕ) → Within (inter a b) a
-in-left a b = record { keeps = λ v. omega (arith, bit-inter a b v) }
-
 -- of a set of choices, what a filling says of the choices is what it says
 both-yes : (a m choices : ℕ) → Within a choices → inter a (inter m choices) ≡ inter a m
 both-yes a m choices w =
     ext _ _ (λ v. omega (arith, bit-inter a (inter m choices) v, bit-inter m choices v, bit-inter a m v, w .keeps v))
 
-both-no : (a m choices : ℕ) → Within a choices → inter a (diff choices m) ≡ diff a m
+pub both-no : (a m choices : ℕ) → Within a choices → inter a (diff choices m) ≡ diff a m
 both-no a m choices w =
     ext _ _ (λ v. omega (arith, bit-inter a (diff choices m) v, bit-diff choices m v, bit-diff a m v, w .keeps v, bit-le choices v, bit-le m v))
 
@@ -117,7 +114,7 @@ module _ (n choices : ℕ) (below : choices < 2 ^ n) where
       (rw (ap (λ (s : LiteralSet). s .yes) e) (within-refl choices), rw (ap (λ (s : LiteralSet). s .no) e) (within-refl choices))
   common-choices (m ∷ found) =
       let w = common-choices found in (
-        rw (common-yes m found) (within-trans _ _ _ (in-left (commonYes n choices found) m) (w .0)),
+        rw (common-yes m found) (within-trans _ _ _ (inter-in-left (commonYes n choices found) m) (w .0)),
         rw (common-no m found) (within-trans _ _ _ (diff-in (commonNo n choices found) m) (w .1)),
       )
 
@@ -170,10 +167,10 @@ unfolding holds
 takes-one-out choices set m d = go (d .literal) (d .in-set) (d .denied)
   where
     yes-within : Within (inter (set .yes) (inter m choices)) (set .yes)
-    yes-within = in-left (set .yes) (inter m choices)
+    yes-within = inter-in-left (set .yes) (inter m choices)
 
     no-within : Within (inter (set .no) (diff choices m)) (set .no)
-    no-within = in-left (set .no) (diff choices m)
+    no-within = inter-in-left (set .no) (diff choices m)
 
     go : (l : Literal) → FilledIn set l → holds m l ≡ false → size (inBoth set (overChoices choices m)) < size set
     go (pos zero) i e = absurd i
@@ -192,5 +189,5 @@ denies-before choices set m f d = record { literal = d .literal; in-set = go (d 
   where
     go : (l : Literal) → FilledIn (inBoth set (overChoices choices m)) l → FilledIn set l
     go (pos zero) i = i
-    go (pos (suc v)) i = within-bit (in-left (set .yes) (inter m choices)) v i
-    go (negsuc v) i = within-bit (in-left (set .no) (diff choices m)) v i
+    go (pos (suc v)) i = within-bit (inter-in-left (set .yes) (inter m choices)) v i
+    go (negsuc v) i = within-bit (inter-in-left (set .no) (diff choices m)) v i

@@ -100,6 +100,9 @@ apart-by m k h =
 pub apart-within : {on off a b : ℕ} → Within a on → Within b off → Apart on off → Apart a b
 apart-within x y p = record { avoids = λ v. omega (arith, x .keeps v, y .keeps v, p .avoids v) }
 
+pub inter-in-left : (a b : ℕ) → Within (inter a b) a
+inter-in-left a b = record { keeps = λ v. omega (arith, bit-inter a b v) }
+
 pub inter-in : (a b : ℕ) → Within (inter a b) b
 inter-in a b = record { keeps = λ v. omega (arith, bit-inter a b v) }
 
