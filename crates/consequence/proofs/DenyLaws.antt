@@ -16,8 +16,8 @@ use Rattle.sat.specs.Contracts.{Posed, Searched}
 use Rattle.sat.specs.Laws.Assigns.{model-rules}
 use Rattle.sat.specs.declared.SearchResult.{SearchResult}
 use Rattle.sat.specs.declared.SearchResult.the-variants.{Found, Nothing}
+use Rattle.consequence.specs.Algorithm2.{Denies}
 use Rattle.consequence.specs.Contracts.{Denied}
-use Rattle.consequence.specs.Laws.Common.{denies-obeys, obeys-denies}
 
 masks-snoc : (n : ℕ) (ms : List ℕ) (m : ℕ) → MasksBelow n ms → m < 2 ^ n → MasksBelow n (ms ++ (m ∷ []))
 masks-snoc n ms m a h = record { below = λ i l. go i l (decLt i (length ms)) }
@@ -61,8 +61,9 @@ module _ {n : ℕ} {ys ns : List ℕ} {on off : ℕ} (posed : Posed n ys ns on o
   more-rules : (y k f : ℕ) → Model n ys ns on off f → obeysMasks f y k ≡ true → Model n (ys ++ (y ∷ [])) (ns ++ (k ∷ [])) on off f
   more-rules y k f m e = model-rules m (obeys-snoc f ys ns y k (posed .paired) ∙ rw (m .obeyed, e) refl)
 
-  -- what the search with one rule more says of the kept literals
-  pub denial : (kept : LiteralSet) (r : SearchResult) → Searched n (ys ++ (kept .no ∷ [])) (ns ++ (kept .yes ∷ [])) on off r → Denied n ys ns on off kept r
-  denial kept (Found m) s =
-      let t = fewer-rules (kept .no) (kept .yes) m (s .found) in record { said = (t .0, obeys-denies kept m (t .1)) }
-  denial kept Nothing s = record { said = λ f m d. s .found .none f (more-rules (kept .no) (kept .yes) f m (denies-obeys kept f d)) }
+  -- what the search with one rule more says of the kept literals, where the fillings that obey that rule are those that deny one of them
+  pub denial : (y k : ℕ) (r : SearchResult) → Searched n (ys ++ (y ∷ [])) (ns ++ (k ∷ [])) on off r → (kept : LiteralSet)
+      → ((f : ℕ) → obeysMasks f y k ≡ true → Denies kept f) → ((f : ℕ) → Denies kept f → obeysMasks f y k ≡ true) → Denied n ys ns on off kept r
+  denial y k (Found m) s kept obeyed denied =
+      let t = fewer-rules y k m (s .found) in record { said = (t .0, obeyed m (t .1)) }
+  denial y k Nothing s kept obeyed denied = record { said = λ f m d. s .found .none f (more-rules y k f m (denied f d)) }

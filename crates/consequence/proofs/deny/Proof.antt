@@ -1,36 +1,29 @@
--- `consequence::deny` meets its contract: the search is handed the rules with one more. Assumes nothing.
-use mathlib.Core.Path.{_≡_, refl}
-use mathlib.Core.List.{[], _∷_, _++_}
-use Prim.Native.Nat.{_+_}
-use lib.ListN.{length, take, length-append}
-use denote.Ref.{now}
+-- `consequence::deny` meets its contract: the search is handed the rules with one more, which asks that a kept literal be denied. Assumes nothing.
+use mathlib.Core.Path.{refl}
+use lib.ListN.{length-append}
 use borrow.Author.Needs.{needs}
+use Rattle.consequence.specs.Laws.Common.{denies-obeys, obeys-denies}
 use Rattle.consequence.proofs.DenyLaws.{posed-more, denial}
 use Rattle.consequence.proofs.deny.Statement.{statement}
 use Rattle.consequence.proofs.deny.Tie as tie
 
--- the two lists of rules with one more, as the search is handed them
-module _ (c : tie.After-with-one-more2) where
-  abbrev start : tie.Start
-  start = c .before .before .before .before
-
-  yes-more : take (length (now (start .args .yes)) + 1) (c .before .with-one-more .result) ≡ now (start .args .yes) ++ (start .args .kept .no ∷ [])
-  yes-more = c .before .with-one-more .ensures
-
-  no-more : take (length (now (start .args .yes)) + 1) (c .with-one-more2 .result) ≡ now (start .args .no) ++ (start .args .kept .yes ∷ [])
-  no-more = rw (start .pre .0 .paired) (c .with-one-more2 .ensures)
-
+-- The two lists of rules are those of the arguments with one mask more each: whatever the code put last, since what that rule must say is asked in `returns`.
 search-requires : tie.Need-search-requires
 search-requires c κs =
     let m = c .before .before in
     let p = m .before .before .before .before .pre in
-    rw (yes-more m, no-more m) (posed-more _ _ (p .0) (p .1 .1 .1) (p .1 .1 .0))
+    rw (m .before .with-one-more .ensures, p .0 .paired, m .with-one-more2 .ensures) (posed-more _ _ (p .0) (search needs) (search needs))
 
 returns : tie.Need-returns
-returns c = let m = c .before .before .before in denial (start m .pre .0) _ _ (rw (yes-more m, no-more m) at (c .search .ensures))
+returns c =
+    let m = c .before .before .before in
+    let p = m .before .before .before .before .pre in
+    denial (p .0) _ _ _ (rw (m .before .with-one-more .ensures, p .0 .paired, m .with-one-more2 .ensures) at (c .search .ensures)) _
+    (λ f. obeys-denies _ f) (λ f. denies-obeys _ f)
 
 pub deny-spec : {M : Type 1} → statement M
 deny-spec =
     tie.close (tie.spec (λ c κs. search needs) (λ c κs. search needs) (λ c. search needs) (λ c. search needs)
-    (λ c. rw (yes-more (c .before), length-append) refl) (λ c. search needs)
-    (λ c. let m = c .before .before in rw (no-more m, length-append, m .before .before .before .before .pre .0 .paired) refl) search-requires returns)
+    (λ c. rw (c .before .before .with-one-more .ensures, length-append) refl) (λ c. search needs)
+    (λ c. let m = c .before .before in
+    rw (m .before .before .before .before .pre .0 .paired, m .with-one-more2 .ensures, length-append) refl) search-requires returns)
