@@ -113,9 +113,6 @@ pub fn of_problem(p: MaskedProblem) -> Consequence
     let yes = p.yes;
     let no = p.no;
     let rules = p.rules;
-    let given = Partial {
-        on: p.facts.yes,
-        off: p.facts.no,
-    };
+    let given = propagation::of_literals(p.facts);
     propagate(p.variables, &yes[..rules], &no[..rules], p.choices, given)
 }

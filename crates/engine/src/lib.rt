@@ -19,7 +19,6 @@ use consequence::Consequence;
 use dimacs::Imported;
 use literals::LiteralSet;
 use problem::MaskedProblem;
-use sat::Partial;
 
 // A model of the book, or the refusal.
 pub enum ModelAnswer {
@@ -101,10 +100,7 @@ fn search_model(p: MaskedProblem) -> ModelAnswer
     let yes = p.yes;
     let no = p.no;
     let rules = p.rules;
-    let given = Partial {
-        on: p.facts.yes,
-        off: p.facts.no,
-    };
+    let given = propagation::of_literals(p.facts);
     match sat::search(p.variables, &yes[..rules], &no[..rules], given, 0) {
         sat::SearchResult::Found(m) => ModelAnswer::Model(m),
         sat::SearchResult::Nothing => ModelAnswer::Refused {

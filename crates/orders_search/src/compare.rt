@@ -98,8 +98,7 @@ fn asked(t: Tally, s: &[u8], b: Reckoned, due: Due) -> Tally {
     let t = tally::noted(t, tally::READING, read);
     let t = tally::noted(t, tally::MODEL, model_agrees(s, b, due));
     let forced = same_consequence(consequence_said(s), due);
-    let t = tally::noted(t, tally::CONSEQUENCE, forced);
-    models_found::asked(t, s, models_found::bounds_of(due, b.choices))
+    tally::noted(t, tally::CONSEQUENCE, forced)
 }
 
 // One more book.
@@ -122,10 +121,7 @@ pub fn count(t: Tally, d: Draft) -> Tally {
     let room = obeying.room;
     let all = fillings::part(&room, obeying.count);
     let due = due_of(b, all);
-    asked(
-        models_found::reckoned(seen(t, b, due), all, b, due),
-        s,
-        b,
-        due,
-    )
+    let t = asked(seen(t, b, due), s, b, due);
+    let t = models_found::asked(t, s, models_found::bounds_of(due, b.choices));
+    models_found::reckoned(t, all, b, due)
 }

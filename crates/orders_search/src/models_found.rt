@@ -53,7 +53,7 @@ fn lies_within(models: u32, due: Bounds) -> bool {
     models <= due.most
 }
 
-// The engine's models for one more book.
+// The engine's models for one more good book. (For one that is refused no model is looked for.)
 pub fn asked(t: Tally, s: &[u8], due: Bounds) -> Tally {
     let models = models_found(s);
     let t = tally::added(t, tally::FOUND_IN_ALL, models);

@@ -1,7 +1,9 @@
 // A partial filling, what a pass over the rules finds under it (unit propagation), and resolution.
+ghost use mathlib.Core.Path.{_≡_};
 ghost use Prim.Native.Nat.{_<_};
 ghost use Rattle.sets.specs.Sets.{width};
 ghost use Rattle.propagation.specs.Contracts.{Assigned};
+use literals::LiteralSet;
 
 pub mod pass;
 pub mod resolution;
@@ -10,6 +12,16 @@ pub mod resolution;
 pub struct Partial {
     pub on: u64,
     pub off: u64,
+}
+
+// The partial filling in which the literals of a set are true.
+pub fn of_literals(set: LiteralSet) -> Partial
+    ensures { λ r. ⌜ r ≡ record { on = set .yes; off = set .no } ⌝ }
+{
+    Partial {
+        on: set.yes,
+        off: set.no,
+    }
 }
 
 // The partial filling with variable `v` set.

@@ -14,7 +14,6 @@ use literals::LiteralSet;
 use reasons::Aim;
 use reasons::Part;
 use reasons::State;
-use sat::Partial;
 
 // The answer: the step, or that every literal of the consequence is known.
 pub enum Next {
@@ -232,10 +231,7 @@ fn learn(
     requires { ⌜ Reasoned n (now yes) (now no) choices reasons ⌝ }
     ensures { λ r. ⌜ Learnt n (now (yes .entry)) (now (no .entry)) choices reasons known r ⌝ }
 {
-    let p = Partial {
-        on: reasons.yes,
-        off: reasons.no,
-    };
+    let p = propagation::of_literals(reasons);
     match consequence::propagate(n, yes, no, choices, p) {
         Consequence::NoModel => known,
         Consequence::Forced { kept, models: _ } => LiteralSet {

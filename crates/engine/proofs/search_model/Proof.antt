@@ -8,7 +8,9 @@ use Rattle.engine.proofs.search_model.Tie as tie
 
 pub search-model-spec : {M : Type 1} → statement M
 search-model-spec =
-    tie.close (tie.spec (λ c. search needs) (λ c. search (needs, rules-laws)) (λ c. search needs) (λ c. search (needs, rules-laws)) (λ c κs. search needs)
-    (λ c. search needs) (λ c. search needs)
-    (λ c. record { said = searched-model (c .before .before .before .search .ensures) (c .before .m .given .1) })
-    (λ c. record { said = (refl, refl, searched-none (c .before .before .search .ensures) (c .enum-told .given .1)) }))
+    tie.close (tie.spec (λ c κs. search needs) (λ c. search needs) (λ c. search (needs, rules-laws)) (λ c. search needs) (λ c. search (needs, rules-laws))
+    (λ c κs. rw (c .before .before .of-literals .ensures) (search needs)) (λ c. search needs) (λ c. search needs)
+    (λ c. let s = c .before .before .before in
+    record { said = searched-model (rw (s .before .before .before .of-literals .ensures) at (s .search .ensures)) (c .before .m .given .1) })
+    (λ c. let s = c .before .before in
+    record { said = (refl, refl, searched-none (rw (s .before .before .before .of-literals .ensures) at (s .search .ensures)) (c .enum-told .given .1)) }))
