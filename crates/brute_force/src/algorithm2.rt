@@ -1,6 +1,7 @@
 // Document 003's Algorithm 2 reckoned over fillings that are all at hand: it looks through them where the engine searches.
 use crate::fillings;
 use crate::fillings::Literals;
+use samples::limits;
 
 // How many models were found, the literals over choices that are true in each of them, and whether none is left that denies
 // one of these. Before the first model, every literal over a choice is kept.
@@ -54,7 +55,7 @@ fn onward(run: Run, all: &[u64], given: Literals) -> Run {
     }
 }
 
-// A whole run: it finds no model, or at most one more than there are choices, which are up to twenty.
+// A whole run: it finds no model, or at most one more than there are choices.
 pub fn narrowed(all: &[u64], given: Literals, choices: u64) -> Run {
     let kept = Literals {
         yes: choices,
@@ -65,7 +66,7 @@ pub fn narrowed(all: &[u64], given: Literals, choices: u64) -> Run {
         kept,
         ended: false,
     };
-    let models: u8 = 21;
+    let models = limits::MODELS;
     for i in 0..models {
         if !run.ended {
             run = onward(run, all, given);

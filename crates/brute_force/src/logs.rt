@@ -6,6 +6,7 @@ use crate::steps::Taken;
 use samples::build;
 use samples::build::Draft;
 use samples::edits;
+use samples::limits;
 use samples::reckon::Reckoned;
 
 // The log so far: what is known after it, the steps in it, what they cost, and whether OK has been put.
@@ -50,7 +51,8 @@ fn one(d: Draft, set: Literals, v: u8) -> Draft {
 // The literals of a set, rising by variable.
 pub fn list(d: Draft, set: Literals) -> Draft {
     let mut made = d;
-    for v in 0..32 {
+    let variables = limits::VARIABLES;
+    for v in 0..variables {
         made = one(made, set, v);
     }
     made
@@ -104,14 +106,14 @@ pub fn onward(log: Log, step: Taken) -> Log {
     }
 }
 
-// The log of a book that has a model. At most twenty steps, since each makes a choice known, and OK.
+// The log of a book that has a model: at most a step for each choice, since each makes one known, and OK.
 pub fn whole(all: &[u64], b: Reckoned) -> Log {
     let costs = b.costs;
     let choices = fillings::first(b.choices);
     let facts = fillings::facts(b);
     let consequence = fillings::forced(all, facts, choices);
     let mut log = begun(facts);
-    let records: u8 = 21;
+    let records = limits::RECORDS;
     for i in 0..records {
         if !log.ended {
             let step = steps::next(all, costs, choices, log.known, consequence);

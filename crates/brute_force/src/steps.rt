@@ -1,6 +1,7 @@
 // The next step reckoned over every goal, every set of known literals and every filling that obeys the rules.
 use crate::fillings;
 use crate::fillings::Literals;
+use samples::limits;
 
 // A goal and a set of known literals: the goal's variable and those of the set as masks, and what the two cost.
 // Masks of one variable are in the order of the variables, and a mask is the sum of 2^(v-1) over its variables v.
@@ -36,12 +37,16 @@ fn wide(cost: u16) -> u64 {
 }
 
 // The cost at a place of the row of costs.
-fn cost_at(costs: [u16; 40], place: usize) -> u64 {
-    if place < 40 { wide(costs[place]) } else { 0 }
+fn cost_at(costs: [u16; limits::COSTS], place: usize) -> u64 {
+    if place < limits::COSTS {
+        wide(costs[place])
+    } else {
+        0
+    }
 }
 
 // What the literals over choice v + 1 cost.
-fn cost_of_one(costs: [u16; 40], set: Literals, v: usize) -> u64 {
+fn cost_of_one(costs: [u16; limits::COSTS], set: Literals, v: usize) -> u64 {
     let place = std::num::wrapping_add_usize(v, v);
     if fillings::has(set.yes, v) {
         return cost_at(costs, place);
@@ -53,9 +58,10 @@ fn cost_of_one(costs: [u16; 40], set: Literals, v: usize) -> u64 {
 }
 
 // The sum of the costs of a set of literals.
-fn cost_of(costs: [u16; 40], set: Literals) -> u64 {
+fn cost_of(costs: [u16; limits::COSTS], set: Literals) -> u64 {
     let mut sum = 0;
-    for v in 0..20 {
+    let choices = limits::CHOICES as usize;
+    for v in 0..choices {
         sum = std::num::wrapping_add_u64(sum, cost_of_one(costs, set, v));
     }
     sum
@@ -86,7 +92,13 @@ fn better(made: Candidate, best: Candidate) -> Candidate {
 }
 
 // One goal for a set of known literals: the better of the two and the best so far.
-fn tried(all: &[u64], costs: [u16; 40], set: Set, goal: Literals, best: Candidate) -> Candidate {
+fn tried(
+    all: &[u64],
+    costs: [u16; limits::COSTS],
+    set: Set,
+    goal: Literals,
+    best: Candidate,
+) -> Candidate {
     let opposite = fillings::opposite(goal);
     let made = Candidate {
         found: true,
@@ -105,13 +117,14 @@ fn tried(all: &[u64], costs: [u16; 40], set: Set, goal: Literals, best: Candidat
 // Every goal for a set of known literals.
 fn over_goals(
     all: &[u64],
-    costs: [u16; 40],
+    costs: [u16; limits::COSTS],
     set: Set,
     goals: Literals,
     best: Candidate,
 ) -> Candidate {
     let mut kept = best;
-    for v in 0..20 {
+    let choices = limits::CHOICES as usize;
+    for v in 0..choices {
         let goal = fillings::within(goals, fillings::power(v));
         if !fillings::is_empty(goal) {
             kept = tried(all, costs, set, goal, kept);
@@ -123,7 +136,7 @@ fn over_goals(
 // One set of variables: passed over where one of them is not known, or where its literals cost more than the best so far.
 fn one_set(
     all: &[u64],
-    costs: [u16; 40],
+    costs: [u16; limits::COSTS],
     known: Literals,
     goals: Literals,
     from: u64,
@@ -154,7 +167,12 @@ fn end_of_sets(known: Literals, goals: Literals) -> u64 {
 }
 
 // Every set of known literals, for every goal: the literals of the consequence that are not known.
-fn over_sets(all: &[u64], costs: [u16; 40], known: Literals, goals: Literals) -> Candidate {
+fn over_sets(
+    all: &[u64],
+    costs: [u16; limits::COSTS],
+    known: Literals,
+    goals: Literals,
+) -> Candidate {
     let mut best = Candidate {
         found: false,
         cost: 0,
@@ -173,7 +191,7 @@ fn over_sets(all: &[u64], costs: [u16; 40], known: Literals, goals: Literals) ->
 // wherever a goal is left, whether the reckoning finds a candidate or not.
 pub fn next(
     all: &[u64],
-    costs: [u16; 40],
+    costs: [u16; limits::COSTS],
     choices: u64,
     known: Literals,
     consequence: Literals,

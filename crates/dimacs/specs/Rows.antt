@@ -50,8 +50,9 @@ rows =
     ∷ refuses "p\ncnf 2 0" 12 1
     ∷ refuses "p cnx 2 0" 12 4
     -- a number is judged at its last digit, before the byte after it
-    ∷ refuses "p cnf 33x" 13 6
-    ∷ refuses "p cnf 32x" 12 8
+    ∷ refuses "p cnf 49x" 13 6
+    ∷ refuses "p cnf 48x" 12 8
+    ∷ refuses "p cnf 33x" 12 8
     ∷ refuses "p cnf 99999999999999999999999999999999 1" 13 6
     ∷ refuses "p cnf 2 129" 13 8
     -- after a 0 no digit belongs to it
@@ -95,11 +96,11 @@ unfolding ascii formulaOf bodyFrom headOf wordAndBlanks countsFrom countFrom tex
     bookOf rulesOf keptOf bookBytes costsBytes costBytes rulesBytes ruleBytes twoBytes listBytes byteOf
 book-agrees = refl
 
--- A buffer of 1,554 bytes is too short, before the text is looked at; one of 1,555 serves.
-pub short-buffer : imported 1554 (ascii "x") ≡ refused 8 0
+-- A buffer of 1,638 bytes is too short, before the text is looked at; one of 1,639 serves.
+pub short-buffer : imported 1638 (ascii "x") ≡ refused 8 0
 unfolding imported
 short-buffer = refl
 
-pub long-buffer : imported 1555 (ascii "x") ≡ refused 12 0
+pub long-buffer : imported 1639 (ascii "x") ≡ refused 12 0
 unfolding imported ascii formulaOf headOf wordAndBlanks comments word stands
 long-buffer = refl

@@ -6,6 +6,7 @@ use crate::reckon::Reckoned;
 use samples::build;
 use samples::build::Draft;
 use samples::edits;
+use samples::limits;
 
 // How many clauses a text has, how many of them are dropped, have no literals, have a repeat, and have literals that
 // are put in another order.
@@ -101,7 +102,11 @@ fn costs(d: Draft, choices: u8) -> Draft {
 
 // The header and the costs. How many rules there are is not known yet.
 fn begun(variables: u8) -> Made {
-    let choices = if variables > 20 { 20 } else { variables };
+    let choices = if variables > limits::CHOICES {
+        limits::CHOICES
+    } else {
+        variables
+    };
     let d = build::header(build::empty(), variables, choices, 0);
     Made {
         book: costs(d, choices),

@@ -3,6 +3,12 @@
 ghost use Prim.Native.Nat.{_<_};
 use crate::machine;
 use crate::machine::Machine;
+use samples::limits;
+
+// The most that V and R may be.
+const VARIABLES: u64 = limits::VARIABLES as u64;
+
+const CLAUSES: u64 = limits::RULES as u64;
 
 fn is_blank(b: u8) -> bool {
     match b {
@@ -70,13 +76,13 @@ fn counted(mut m: Machine) -> Machine {
     match state {
         machine::IN_V => {
             m.variables = m.value;
-            if m.value > 32 {
+            if m.value > VARIABLES {
                 return machine::refused(m, 13, m.begin);
             }
         }
         machine::IN_R => {
             m.left = m.value;
-            if m.value > 128 {
+            if m.value > CLAUSES {
                 return machine::refused(m, 13, m.begin);
             }
         }

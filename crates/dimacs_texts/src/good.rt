@@ -3,7 +3,7 @@ use samples::build;
 use samples::build::Draft;
 
 // How many there are.
-pub const FILES: u8 = 8;
+pub const FILES: u8 = 9;
 
 pub fn file(n: u8) -> Draft {
     let none = build::empty();
@@ -24,6 +24,11 @@ pub fn file(n: u8) -> Draft {
         3 => build::bytes(none, b"p cnf 3 4\n3 1 3 1 0\n2 -1 -2 0\n0\n-3 -3 0\n"),
         // Eight literals and nine with a repeat, over the last variables.
         4 => build::bytes(
+            none,
+            b"p cnf 48 2 48 -47 46 -45 44 -43 42 -41 0 1 2 3 4 5 6 7 -8 7 0\n",
+        ),
+        // The same in a file of fewer variables.
+        8 => build::bytes(
             none,
             b"p cnf 32 2 32 -31 30 -29 28 -27 26 -25 0 1 2 3 4 5 6 7 -8 7 0\n",
         ),

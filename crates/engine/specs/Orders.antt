@@ -83,7 +83,7 @@ orders =
 unfoldable pub countOrders : List OrderRow
 countOrders = refuses order-empty-rule 9 0 ∷ refuses order-nine-literals 5 16 ∷ []
 
--- What the meanings say of an order's bytes, with a buffer of 547 bytes.
+-- What the meanings say of an order's bytes, with the shortest buffer that serves.
 unfoldable pub meant : List ℕ → OrderRow
 meant s =
     record {

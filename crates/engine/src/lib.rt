@@ -61,7 +61,7 @@ pub fn read_book(s: &[u8]) -> Reading
     book::read(s)
 }
 
-// The costs of the book, twenty rows of two.
+// The costs of the book: a row of two for each choice that a book can have, thirty-two rows.
 // Ruled out: a table with yes and no swapped; costs other than 0 beside a refusal.
 pub fn read_costs(s: &[u8]) -> [[u16; 2]; Book::MAX_CHOICES]
     ensures { λ r. ⌜ r ≡ tableAnswer (λ b. b .costs) (readBook (now (s .entry))) ⌝ }

@@ -1,6 +1,7 @@
 // Good books made up: costs, rules and facts drawn to a shape.
 use samples::build;
 use samples::build::Draft;
+use samples::limits;
 use samples::random;
 
 // What a book that is made up is like. Where there is no variable its rules have no literals.
@@ -151,14 +152,14 @@ pub fn book(seed: u64, like: Shape) -> Draft {
     build::end(facts(rules(d, like), like))
 }
 
-// A good book of up to `most` variables, which are at most 32, and up to twelve rules, made up from a seed. In every other
-// book rules of no literals are among them.
+// A good book of up to `most` variables, no more than a book can have, and up to twelve rules, made up from a seed. In every
+// other book rules of no literals are among them.
 pub fn any_book(seed: u64, most: u8) -> Draft {
     let a = random::next(seed);
     let b = random::next(a);
     let c = random::next(b);
     let variables = random::byte_below(a, std::num::wrapping_add_u8(most, 1));
-    let most_choices = if variables < 20 { variables } else { 20 };
+    let most_choices = least(variables, limits::CHOICES);
     let choices = random::byte_below(b, std::num::wrapping_add_u8(most_choices, 1));
     let mut like = wide_shape(variables, choices, random::byte_below(c, 13));
     like.fewest = random::byte_below(random::next(c), 2);

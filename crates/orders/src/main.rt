@@ -8,6 +8,12 @@ use compare::Tally;
 use made_books::made;
 use samples::build;
 use samples::counter;
+use samples::limits;
+
+// Where the last rule of the longest book and its third fact begin: without facts it would end with EN where its first one is.
+const LAST_RULE: usize = limits::WITHOUT_FACTS - 13;
+
+const THIRD_FACT: usize = limits::WITHOUT_FACTS + 4;
 
 fn line(name: &[u8], tried: u64, differ: u64) {
     io::write_all(1, name);
@@ -50,7 +56,7 @@ fn near_good_books(t: Tally) -> Tally {
     let t = groups::changes(compare::next_group(t), p, 0, p.len);
     let t = groups::changes(t, middle, 0, middle.len);
     let t = groups::changes(t, longest, 0, 5);
-    let t = groups::changes(t, longest, 1542, 1559);
+    let t = groups::changes(t, longest, LAST_RULE, THIRD_FACT);
     line(b"changes", t.tried, t.differ);
     let t = groups::shifts(compare::next_group(t), p);
     line(b"a byte more or less", t.tried, t.differ);
@@ -60,13 +66,13 @@ fn near_good_books(t: Tally) -> Tally {
     t
 }
 
-// Groups of books made up, of few variables and of up to 32.
+// Groups of books made up, of few variables and of up to the most.
 fn made_up_books(t: Tally) -> Tally {
-    let t = groups::made_up(groups::made_up(t, 4000, 10), 1000, 32);
+    let t = groups::made_up(groups::made_up(t, 4000, 10), 1000, limits::VARIABLES);
     line(b"made up", t.tried, t.differ);
     line(b"made up, expected", t.tried, t.unexpected);
     let t = groups::edited(compare::next_group(t), 16000, 10);
-    let t = groups::edited(t, 4000, 32);
+    let t = groups::edited(t, 4000, limits::VARIABLES);
     line(b"random", t.tried, t.differ);
     t
 }

@@ -1,6 +1,7 @@
 // The engine asked for the book of a text.
-ghost use Prim.Native.Nat.{_≤_};
 use dimacs::Imported;
+use samples::build;
+use samples::limits;
 
 // The answer: number 0 and the book's length, or the refusal; and the room in which the buffer lay, with what it began with.
 pub struct Answered {
@@ -12,10 +13,8 @@ pub struct Answered {
 }
 
 impl Answered {
-    pub const ROOM: usize = 1600;
-
-    // The shortest buffer that serves.
-    pub const SHORTEST: usize = 1555;
+    // Some more bytes than the longest book without facts has.
+    pub const ROOM: usize = limits::WITHOUT_FACTS + 45;
 }
 
 // What the room holds at a place before the call. No place holds the same for two different starts.
@@ -25,27 +24,17 @@ fn before(start: u8, i: usize) -> u8 {
 
 fn prepared(start: u8) -> [u8; Answered::ROOM] {
     let mut room = [0; Answered::ROOM];
-    for i in 0..Answered::ROOM {
+    let end = Answered::ROOM;
+    for i in 0..end {
         room[i] = before(start, i);
     }
     room
 }
 
-// A buffer's length: at most that of the room.
-fn fitting(len: usize) -> usize
-    ensures { λ r. ⌜ r ≤ 1600 ⌝ }
-{
-    if len < Answered::ROOM {
-        len
-    } else {
-        Answered::ROOM
-    }
-}
-
 // The answer with a buffer of so many bytes, in a room that begins with this byte.
 fn answer_in(s: &[u8], len: usize, start: u8) -> Answered {
     let mut room = prepared(start);
-    let end = fitting(len);
+    let end = build::fitting(&room, len);
     match engine::read_dimacs(s, &mut room[0..end]) {
         Imported::Written(size) => Answered {
             room,
@@ -70,7 +59,8 @@ pub fn answer(s: &[u8], len: usize) -> Answered {
 
 // Whether the room holds these bytes and beyond them what it held before.
 fn same_room(room: [u8; Answered::ROOM], bytes: &[u8], start: u8) -> bool {
-    for i in 0..Answered::ROOM {
+    let end = Answered::ROOM;
+    for i in 0..end {
         let due = if i < bytes.len() {
             bytes[i]
         } else {

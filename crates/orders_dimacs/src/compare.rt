@@ -1,6 +1,5 @@
 // The engine's answer to a text held against the reckoning, or against what is expected.
 use crate::asked;
-use crate::asked::Answered;
 use crate::tally;
 use crate::tally::Tally;
 use dimacs_reckoning::book_bytes;
@@ -8,6 +7,7 @@ use dimacs_reckoning::book_bytes::Made;
 use dimacs_reckoning::reckon;
 use samples::build;
 use samples::build::Draft;
+use samples::limits;
 
 // Whether the engine reads these bytes as a book.
 fn is_read(book: &[u8]) -> bool {
@@ -28,7 +28,7 @@ fn count_book(t: Tally, group: usize, s: &[u8], len: usize, made: Made) -> Tally
 
 // One more text, with a buffer of so many bytes.
 pub fn count_with(t: Tally, group: usize, s: &[u8], len: usize) -> Tally {
-    if len < Answered::SHORTEST {
+    if len < limits::WITHOUT_FACTS {
         let t = tally::noted(t, group, asked::refuses(s, len, 8, 0));
         return tally::seen(t, group, 8);
     }
@@ -44,7 +44,7 @@ pub fn count_with(t: Tally, group: usize, s: &[u8], len: usize) -> Tally {
 
 // One more text, with the shortest buffer that serves.
 pub fn count(t: Tally, group: usize, s: &[u8]) -> Tally {
-    count_with(t, group, s, Answered::SHORTEST)
+    count_with(t, group, s, limits::WITHOUT_FACTS)
 }
 
 // One more draft.
@@ -55,7 +55,7 @@ pub fn count_draft(t: Tally, group: usize, d: Draft) -> Tally {
 
 // A text that is expected to be refused with a number at a place.
 pub fn refuses(t: Tally, s: &[u8], number: u8, place: usize) -> Tally {
-    let agrees = asked::refuses(s, Answered::SHORTEST, number, place);
+    let agrees = asked::refuses(s, limits::WITHOUT_FACTS, number, place);
     let t = tally::noted(t, tally::EXPECTED, agrees);
     let t = tally::seen(t, tally::EXPECTED, number);
     count(t, tally::BOUNDARIES, s)
@@ -63,7 +63,7 @@ pub fn refuses(t: Tally, s: &[u8], number: u8, place: usize) -> Tally {
 
 // A text of which this book is expected.
 pub fn writes(t: Tally, s: &[u8], book: &[u8]) -> Tally {
-    let agrees = asked::writes(s, Answered::SHORTEST, book);
+    let agrees = asked::writes(s, limits::WITHOUT_FACTS, book);
     let t = tally::noted(t, tally::EXPECTED, agrees);
     let t = tally::seen(t, tally::EXPECTED, 0);
     count(t, tally::BOUNDARIES, s)

@@ -1,4 +1,5 @@
 // Groups of many texts, each held against the reckoning.
+use crate::asked::Answered;
 use crate::compare;
 use crate::tally;
 use crate::tally::Tally;
@@ -8,6 +9,7 @@ use dimacs_texts::wrong;
 use samples::build;
 use samples::build::Draft;
 use samples::edits;
+use samples::limits;
 use samples::random;
 
 // Every prefix of a file, the whole of it last.
@@ -59,7 +61,8 @@ fn near(t: Tally, d: Draft) -> Tally {
 // Every good file and all that is near it.
 pub fn near_good_files(t: Tally) -> Tally {
     let mut after = t;
-    for n in 0..good::FILES {
+    let files = good::FILES;
+    for n in 0..files {
         let d = good::file(n);
         after = near(truncations(after, d), d);
     }
@@ -120,26 +123,35 @@ pub fn made_files(t: Tally, files: u32, from: Source) -> Tally {
     after
 }
 
+// A byte less than the longest book without facts has, a byte more, and the longest such book of at most twenty choices.
+const SHORT: usize = limits::WITHOUT_FACTS - 1;
+
+const LONGER: usize = limits::WITHOUT_FACTS + 1;
+
+const TWENTY_CHOICES: usize = 1555;
+
 // A file with buffers of several lengths.
 fn with_buffers(t: Tally, d: Draft) -> Tally {
     let bytes = d.bytes;
     let s = build::part(&bytes, d.len);
     let t = compare::count_with(t, tally::BUFFERS, s, 0);
     let t = compare::count_with(t, tally::BUFFERS, s, d.len);
-    let t = compare::count_with(t, tally::BUFFERS, s, 1554);
-    let t = compare::count_with(t, tally::BUFFERS, s, 1555);
-    let t = compare::count_with(t, tally::BUFFERS, s, 1556);
-    compare::count_with(t, tally::BUFFERS, s, 1600)
+    let t = compare::count_with(t, tally::BUFFERS, s, TWENTY_CHOICES);
+    let t = compare::count_with(t, tally::BUFFERS, s, SHORT);
+    let t = compare::count_with(t, tally::BUFFERS, s, limits::WITHOUT_FACTS);
+    let t = compare::count_with(t, tally::BUFFERS, s, LONGER);
+    compare::count_with(t, tally::BUFFERS, s, Answered::ROOM)
 }
 
 // Each good file, the same with its last bytes left out and with a number that is too large, and no file.
 pub fn buffers(t: Tally) -> Tally {
     let mut after = with_buffers(t, build::empty());
-    for n in 0..good::FILES {
+    let files = good::FILES;
+    for n in 0..files {
         let d = good::file(n);
         after = with_buffers(after, d);
         after = with_buffers(after, edits::cut(d, 9));
-        after = with_buffers(after, build::bytes(build::empty(), b"p cnf 33 1"));
+        after = with_buffers(after, build::bytes(build::empty(), b"p cnf 49 1"));
     }
     after
 }

@@ -1,6 +1,5 @@
 // Files of many clauses or many bytes: the longest book, files that are near its file, long comments and long clauses.
 use crate::asked;
-use crate::asked::Answered;
 use crate::compare;
 use crate::tally;
 use crate::tally::Tally;
@@ -9,12 +8,13 @@ use dimacs_texts::long::Long;
 use dimacs_texts::numbers;
 use samples::build;
 use samples::build::Draft;
+use samples::limits;
 
 // One more file, with the number, place and length of the book that are expected of it.
 fn expect(t: Tally, l: Long, number: u8, place: usize, size: usize) -> Tally {
     let bytes = l.bytes;
     let s = build::part(&bytes, l.len);
-    let a = asked::answer(s, Answered::SHORTEST);
+    let a = asked::answer(s, limits::WITHOUT_FACTS);
     let so = a.number == number && a.place == place && a.size == size;
     let t = tally::noted(t, tally::EXPECTED, so);
     compare::count(tally::seen(t, tally::EXPECTED, number), tally::LONG, s)
@@ -31,17 +31,17 @@ fn cut(mut l: Long, len: usize) -> Long {
     l
 }
 
-// The file of the longest book: 32 variables and 128 clauses of eight literals, none of them in order. Its head has 13 bytes
+// The file of the longest book: 48 variables and 128 clauses of eight literals, none of them in order. Its head has 13 bytes
 // and each clause 34.
 fn longest() -> Long {
-    alike(32, long::falling_clause(32, 8), 128)
+    alike(48, long::falling_clause(48, 8), 128)
 }
 
 // The longest book has all of the shortest buffer, also without the file's last line end and with more blanks behind it.
 fn longest_taken(t: Tally, l: Long) -> Tally {
-    let t = expect(t, l, 0, 0, 1555);
-    let t = expect(t, cut(l, 4364), 0, 0, 1555);
-    expect(t, long::bytes(l, b"\r\n \t\n"), 0, 0, 1555)
+    let t = expect(t, l, 0, 0, 1639);
+    let t = expect(t, cut(l, 4364), 0, 0, 1639);
+    expect(t, long::bytes(l, b"\r\n \t\n"), 0, 0, 1639)
 }
 
 // Without its last 0, or with a byte or a clause more, the file is refused.
@@ -54,9 +54,9 @@ fn longest_wrong(t: Tally, l: Long) -> Tally {
 
 // So it is with a longer last clause, and where 129 clauses are announced.
 fn longest_too_large(t: Tally, l: Long) -> Tally {
-    let nine = long::falling_clause(32, 9);
+    let nine = long::falling_clause(48, 9);
     let t = expect(t, long::draft(cut(l, 4331), nine), 13, 4331, 0);
-    let more = long::times(long::head(32, 129), long::falling_clause(32, 8), 129);
+    let more = long::times(long::head(48, 129), long::falling_clause(48, 8), 129);
     expect(t, more, 13, 9, 0)
 }
 
@@ -73,11 +73,14 @@ fn clauses_alike(t: Tally, variables: u8, clause: &[u8], size: usize) -> Tally {
 
 // Clauses that have no literals, that are dropped, and that have repeats.
 fn other_clauses(t: Tally) -> Tally {
-    let t = clauses_alike(t, 32, b"0 ", 531);
+    let t = clauses_alike(t, 48, b"0 ", 615);
+    let t = clauses_alike(t, 32, b"0 ", 615);
     let t = clauses_alike(t, 0, b"0\n", 391);
     let t = clauses_alike(t, 1, b"1 -1 0\n", 14);
     let t = clauses_alike(t, 20, b"20 20 0\n", 659);
-    clauses_alike(t, 32, b"32 -1 32 -1 32 0 ", 787)
+    let t = clauses_alike(t, 21, b"21 20 0\n", 794);
+    let t = clauses_alike(t, 32, b"32 -1 32 -1 32 0 ", 871);
+    clauses_alike(t, 48, b"48 -1 48 -1 48 0 ", 871)
 }
 
 // 128 clauses of nine literals; 127 clauses where 128 are announced, and the last one put behind them, which is dropped.

@@ -13,6 +13,7 @@ mod rows;
 mod tally;
 
 use groups::Source;
+use samples::limits;
 use tally::Tally;
 
 // Texts at the limits of the form, and near good files.
@@ -33,8 +34,8 @@ fn source(seed: u64, variables: u8, clauses: u8, literals: u8) -> Source {
 // Files made up: few variables and clauses, clauses of many literals, and many clauses.
 fn made_files(t: Tally) -> Tally {
     let few = source(88172645463325252, 6, 5, 4);
-    let long = source(362436069362436069, 32, 8, 8);
-    let many = source(521288629521288629, 32, 30, 5);
+    let long = source(362436069362436069, limits::VARIABLES, 8, 8);
+    let many = source(521288629521288629, limits::VARIABLES, 30, 5);
     let t = groups::made_files(groups::made_files(t, 4000, few), 8000, long);
     groups::made_files(t, 2000, many)
 }

@@ -1,7 +1,6 @@
 // Files of few variables: the fillings that satisfy the file held against those that obey the book, and against what the
 // engine says of the book.
 use crate::asked;
-use crate::asked::Answered;
 use crate::compare;
 use crate::groups::Source;
 use crate::tally;
@@ -15,6 +14,7 @@ use engine::LogAnswer;
 use engine::ModelAnswer;
 use samples::build;
 use samples::build::Draft;
+use samples::limits;
 use samples::random;
 
 // How many fillings there are, how many satisfy the file, at how many file and book differ; and the variables that are yes,
@@ -86,8 +86,8 @@ fn consequence_agrees(f: Found, book: &[u8]) -> bool {
 }
 
 fn log_agrees(f: Found, book: &[u8]) -> bool {
-    let mut buffer = [0; 547];
-    match engine::log(book, &mut buffer[0..547]) {
+    let mut buffer = [0; limits::LOG];
+    match engine::log(book, &mut buffer[0..limits::LOG]) {
         LogAnswer::Written {
             size: _,
             steps: _,
@@ -116,7 +116,7 @@ fn one(t: Tally, d: Draft) -> Tally {
     if r.number != 0 {
         return t;
     }
-    let a = asked::answer(s, Answered::SHORTEST);
+    let a = asked::answer(s, limits::WITHOUT_FACTS);
     let room = a.room;
     compared(t, r, build::part(&room, a.size))
 }

@@ -1,12 +1,12 @@
 // The engine's log, asked for and held against what is due, or against the log of another book.
-ghost use Prim.Native.Nat.{_≤_};
 use brute_force::logs::Log;
 use engine::LogAnswer;
 use samples::build;
+use samples::limits;
 
 // What the engine answered to a call for the log, number 0 where it wrote one, and the room in which its buffer lay.
 struct Answered {
-    room: [u8; Answered::ROOM],
+    room: [u8; ROOM],
     number: u8,
     place: usize,
     size: usize,
@@ -14,30 +14,20 @@ struct Answered {
     total: u32,
 }
 
-impl Answered {
-    const ROOM: usize = 640;
+// The bytes of the room: some more than the longest log has.
+pub const ROOM: usize = limits::LOG + 45;
 
+impl Answered {
     // What the room holds before the call, and what it holds where two calls are to find different bytes.
     const BEFORE: u8 = 165;
 
     const OTHER_BEFORE: u8 = 90;
 }
 
-// A buffer's length: at most that of the room.
-fn fitting(len: usize) -> usize
-    ensures { λ r. ⌜ r ≤ 640 ⌝ }
-{
-    if len < Answered::ROOM {
-        len
-    } else {
-        Answered::ROOM
-    }
-}
-
 // The log asked for with a buffer of `len` bytes, or of all the room, which holds this byte everywhere.
 fn written(s: &[u8], len: usize, before: u8) -> Answered {
-    let mut room = [before; Answered::ROOM];
-    let end = fitting(len);
+    let mut room = [before; ROOM];
+    let end = build::fitting(&room, len);
     match engine::log(s, &mut room[0..end]) {
         LogAnswer::Written { size, steps, total } => Answered {
             room,
@@ -59,8 +49,9 @@ fn written(s: &[u8], len: usize, before: u8) -> Answered {
 }
 
 // Whether the room holds these bytes and beyond them what it held before.
-fn same_room(room: [u8; Answered::ROOM], bytes: &[u8], before: u8) -> bool {
-    for i in 0..Answered::ROOM {
+fn same_room(room: [u8; ROOM], bytes: &[u8], before: u8) -> bool {
+    let end = ROOM;
+    for i in 0..end {
         let due = if i < bytes.len() { bytes[i] } else { before };
         if room[i] != due {
             return false;
@@ -129,14 +120,14 @@ fn same_answer(a: Answered, b: Answered) -> bool {
 
 // The steps of a book's log.
 pub fn steps(s: &[u8]) -> u8 {
-    written(s, 547, Answered::BEFORE).steps
+    written(s, limits::LOG, Answered::BEFORE).steps
 }
 
 // Whether two books have the same log, or the same refusal, written into buffers of different lengths that held different
 // bytes, which are still there beyond the log.
 pub fn same_log(s: &[u8], other: &[u8]) -> bool {
-    let a = written(s, 547, Answered::BEFORE);
-    let b = written(other, 640, Answered::OTHER_BEFORE);
+    let a = written(s, limits::LOG, Answered::BEFORE);
+    let b = written(other, ROOM, Answered::OTHER_BEFORE);
     if !same_answer(a, b) {
         return false;
     }

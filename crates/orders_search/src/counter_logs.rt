@@ -1,6 +1,5 @@
 // The same books as whole logs.
 use crate::asked_log;
-use crate::counter_steps;
 use crate::tally;
 use crate::tally::Tally;
 use crate::worked;
@@ -9,6 +8,7 @@ use brute_force::logs::Log;
 use samples::build;
 use samples::build::Draft;
 use samples::counter;
+use samples::limits;
 
 // A book, the bytes of its log, and the numbers that the call returns.
 fn logs_as(t: Tally, d: Draft, due: Draft, steps: u64, total: u64) -> Tally {
@@ -21,7 +21,11 @@ fn logs_as(t: Tally, d: Draft, due: Draft, steps: u64, total: u64) -> Tally {
         total,
         ended: true,
     };
-    tally::noted(t, tally::COUNTER_LOGS, asked_log::log_agrees(s, 547, log))
+    tally::noted(
+        t,
+        tally::COUNTER_LOGS,
+        asked_log::log_agrees(s, limits::LOG, log),
+    )
 }
 
 // An order that has a log of so many steps and this total.
@@ -40,7 +44,7 @@ fn refuses(t: Tally, letter: u8, number: u8, place: usize) -> Tally {
     let d = counter::order(letter);
     let bytes = d.bytes;
     let s = build::part(&bytes, d.len);
-    let agrees = asked_log::log_refused(s, 547, number, place);
+    let agrees = asked_log::log_refused(s, limits::LOG, number, place);
     tally::noted(t, tally::COUNTER_LOGS, agrees)
 }
 
@@ -57,21 +61,7 @@ fn refused_orders(t: Tally) -> Tally {
     refuses(refuses(t, b'f', 9, 0), b'j', 6, 12)
 }
 
-// Ten steps, each of a choice from its fact.
-fn pair_log() -> Draft {
-    let mut made = build::empty();
-    for i in 0..10 {
-        let v = std::num::wrapping_add_u8(i, 1);
-        let choice = std::num::wrapping_add_u8(v, 10);
-        made = build::put(build::bytes(made, b"ST"), choice);
-        made = build::put2(build::put2(made, 1, v), 1, choice);
-        made = build::pair(made, 14);
-    }
-    build::bytes(made, b"OK\x0a\x00\x00\x00\x8c")
-}
-
 // All of them.
 pub fn all(t: Tally) -> Tally {
-    let t = refused_orders(logs_of_orders(t));
-    logs_as(t, counter_steps::pairs(), pair_log(), 10, 140)
+    refused_orders(logs_of_orders(t))
 }

@@ -1,5 +1,4 @@
-// The orders at the counter of document 01, and a book that is too large for the reckoning: the engine's steps held
-// against what is written here.
+// The orders at the counter of document 01: the engine's steps held against what is written here.
 use crate::asked;
 use crate::tally;
 use crate::tally::Tally;
@@ -10,11 +9,11 @@ use samples::build::Draft;
 use samples::counter;
 
 // These variables yes, none no.
-fn all_yes(mask: u64) -> Literals {
+pub fn all_yes(mask: u64) -> Literals {
     Literals { yes: mask, no: 0 }
 }
 
-fn step_of(goal: Literals, reasons: u64, new: Literals, cost: u64) -> Taken {
+pub fn step_of(goal: Literals, reasons: u64, new: Literals, cost: u64) -> Taken {
     Taken {
         found: true,
         goal,
@@ -25,7 +24,7 @@ fn step_of(goal: Literals, reasons: u64, new: Literals, cost: u64) -> Taken {
     }
 }
 
-fn nothing_left() -> Taken {
+pub fn nothing_left() -> Taken {
     let mut none = step_of(all_yes(0), 0, all_yes(0), 0);
     none.found = false;
     none
@@ -78,53 +77,7 @@ fn refused_orders(t: Tally) -> Tally {
     refuses(refuses(t, b'f', 1, 9, 0), b'j', 0, 6, 12)
 }
 
-// Choice v makes helper v + 20 yes and that helper choice v + 10, for v from 1 to 10.
-fn pair_rules(d: Draft) -> Draft {
-    let mut made = d;
-    for i in 0..10 {
-        let v = std::num::wrapping_add_u8(i, 1);
-        let choice = std::num::wrapping_add_u8(v, 10);
-        let helper = std::num::wrapping_add_u8(v, 20);
-        made = build::rule_of_two(made, build::negated(v), helper);
-        made = build::rule_of_two(made, choice, build::negated(helper));
-    }
-    made
-}
-
-// The first ten choices given.
-fn pair_facts(d: Draft) -> Draft {
-    let mut made = d;
-    for i in 0..10 {
-        made = build::fact(made, std::num::wrapping_add_u8(i, 1));
-    }
-    made
-}
-
-// A book of 32 variables and 20 choices, of which ten follow, each from one of the ten facts.
-pub fn pairs() -> Draft {
-    let d = build::costs(build::header(build::empty(), 32, 20, 20), 20);
-    build::end(pair_facts(pair_rules(d)))
-}
-
-// Its ten steps: each at 5 for the fact and 9 for the goal's opposite.
-fn steps_of_pairs(t: Tally) -> Tally {
-    let d = pairs();
-    let mut after = t;
-    let mut known = 1023;
-    let mut fact = 1;
-    let mut goal = 1024;
-    let pairs: u8 = 10;
-    for i in 0..pairs {
-        let due = step_of(all_yes(goal), fact, all_yes(goal), 14);
-        after = steps(after, d, known, due);
-        known = known | goal;
-        fact = fact << 1;
-        goal = goal << 1;
-    }
-    steps(after, d, known, nothing_left())
-}
-
 // All of them.
 pub fn all(t: Tally) -> Tally {
-    steps_of_pairs(refused_orders(steps_of_orders(steps_of_p(t))))
+    refused_orders(steps_of_orders(steps_of_p(t)))
 }

@@ -97,5 +97,6 @@ pub fn all(t: Tally) -> Tally {
     let t = books(books(t, 0, 0, 5, 0, 0), 4, 0, 5, 2, 0);
     let t = books(books(t, 4, 3, 6, 3, 0), 4, 3, 6, 1, 1);
     let t = books(books(t, 32, 20, 128, 8, 0), 32, 20, 128, 8, 20);
-    books(t, 32, 20, 128, 0, 3)
+    let t = books(books(t, 48, 32, 128, 8, 0), 48, 32, 128, 8, 32);
+    books(books(t, 32, 20, 128, 0, 3), 48, 32, 128, 0, 3)
 }

@@ -1,17 +1,20 @@
 // Groups of many books made up.
 use crate::compare;
 use crate::retyped;
+use crate::spread_walks;
 use crate::tally::Tally;
 use crate::walks;
 use made_books::Kind;
 use samples::build::Draft;
 use samples::random;
 
-// What is asked of each book: its reading, model and consequence; its steps and log; whether the same retyped is answered
-// alike; whether its choices, costs and facts with the rules of the book after it are not.
+// What is asked of each book: its reading, model and consequence; its steps and log; the same of the book spread over the most
+// variables; whether the same retyped is answered alike; whether its choices, costs and facts with the rules of the book after
+// it are not.
 pub enum Task {
     Compared,
     Walked,
+    Spread,
     Retyped,
     OtherRules,
 }
@@ -21,6 +24,7 @@ fn one(t: Tally, what: Task, d: Draft, next: Draft) -> Tally {
     match what {
         Task::Compared => compare::count(t, d),
         Task::Walked => walks::count(t, d),
+        Task::Spread => spread_walks::count(t, d),
         Task::Retyped => retyped::count(t, d),
         Task::OtherRules => retyped::count_others(t, d, next),
     }

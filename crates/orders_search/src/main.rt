@@ -8,6 +8,7 @@ mod counter_logs;
 mod counter_steps;
 mod empty_rules;
 mod groups;
+mod large_books;
 mod logged;
 mod models_found;
 mod most_models;
@@ -15,6 +16,7 @@ mod report;
 mod report_pairs;
 mod retyped;
 mod retyped_asked;
+mod spread_walks;
 mod tally;
 mod walks;
 mod worked;
@@ -58,9 +60,10 @@ fn compared() {
     report::all(b"books with a hidden core:\n", t);
 }
 
-// The orders at the counter.
+// The orders at the counter, and books too large for the reckoning whose steps are written here.
 fn counter() {
     let t = counter_logs::all(counter_steps::all(worked::all(tally::none())));
+    let t = large_books::all(t);
     report::all(b"orders at the counter:\n", t);
 }
 
@@ -118,6 +121,22 @@ fn walked_large() {
     report::all(b"books of 17 to 20 variables, walked:\n", t);
 }
 
+// Steps and logs of books of up to ten variables that are spread over the most.
+fn walked_spread() {
+    let any = kind(Form::Any, 10, 8, 9);
+    let t = groups::each(tally::none(), Task::Spread, 600, any, 602214076602214076);
+    let planted = kind(Form::Planted, 10, 10, 3);
+    let t = groups::each(t, Task::Spread, 600, planted, 662607015662607015);
+    let core = kind(Form::Core, 10, 7, 9);
+    let t = groups::each(t, Task::Spread, 200, core, 138064852138064852);
+    let ties = kind(Form::Ties, 10, 8, 2);
+    let t = groups::each(t, Task::Spread, 400, ties, 299792458299792458);
+    report::all(
+        b"books spread over 48 variables and 32 choices, walked:\n",
+        t,
+    );
+}
+
 // Books of up to fourteen variables and the same retyped: small ones, some of them without a model, and others in
 // which more follows; most have helpers.
 fn retyped_pairs() {
@@ -162,6 +181,7 @@ fn main() {
     many_models();
     walked();
     walked_large();
+    walked_spread();
     retyped_pairs();
     other_rules();
 }

@@ -11,10 +11,14 @@ use brute_force::fillings;
 use brute_force::fillings::Literals;
 use samples::build;
 use samples::build::Draft;
+use samples::limits;
 use samples::reckon;
 
 // With up to so many choices there is a rule for each pair of them.
 const PAIRED: u8 = 16;
+
+// One more than the most choices.
+const AFTER_ALL: u8 = limits::CHOICES + 1;
 
 // How many pairs so many choices make.
 fn pairs_of(choices: u8) -> u8 {
@@ -56,26 +60,26 @@ fn paired(choices: u8, yes: bool) -> Draft {
     pairs(build::costs(d, choices), 1, end, yes)
 }
 
-// Each choice makes the helper of its row and that of its column yes: four rows after the choices, then five columns.
+// Each choice makes the helper of its row and that of its column yes: four rows after the choices, then eight columns.
 fn places(d: Draft, choices: u8) -> Draft {
     let mut made = d;
     for i in 0..choices {
         let v = build::negated(std::num::wrapping_add_u8(i, 1));
-        let row = std::num::wrapping_add_u8(choices, std::num::wrapping_add_u8(i / 5, 1));
-        let column = std::num::wrapping_add_u8(choices, std::num::wrapping_add_u8(i % 5, 5));
+        let row = std::num::wrapping_add_u8(choices, std::num::wrapping_add_u8(i / 8, 1));
+        let column = std::num::wrapping_add_u8(choices, std::num::wrapping_add_u8(i % 8, 5));
         made = build::rule_of_two(made, v, row);
         made = build::rule_of_two(made, v, column);
     }
     made
 }
 
-// The choices in a grid of which at most one row and one column are yes: a rule for each pair of twenty choices would be more
-// than a book can have.
+// The choices in a grid of which at most one row and one column are yes: a rule for each pair of so many choices would be
+// more than a book can have. There are 6 pairs of rows and 28 of columns.
 fn grid(choices: u8) -> Draft {
     let columns = std::num::wrapping_add_u8(choices, 5);
-    let end = std::num::wrapping_add_u8(choices, 10);
-    let rules = std::num::wrapping_add_u8(std::num::wrapping_add_u8(choices, choices), 16);
-    let variables = std::num::wrapping_add_u8(choices, 9);
+    let end = std::num::wrapping_add_u8(choices, 13);
+    let rules = std::num::wrapping_add_u8(std::num::wrapping_add_u8(choices, choices), 34);
+    let variables = std::num::wrapping_add_u8(choices, 12);
     let d = build::header(build::empty(), variables, choices, rules);
     let d = places(build::costs(d, choices), choices);
     let rows = std::num::wrapping_add_u8(choices, 1);
@@ -147,7 +151,8 @@ fn with_facts(t: Tally, choices: u8) -> Tally {
 // Every number of choices.
 pub fn all(t: Tally) -> Tally {
     let mut after = t;
-    for choices in 0..21 {
+    let end = AFTER_ALL;
+    for choices in 0..end {
         after = with_facts(after, choices);
     }
     after

@@ -10,6 +10,7 @@ use brute_force::fillings;
 use brute_force::restricted;
 use samples::build;
 use samples::build::Draft;
+use samples::limits;
 use samples::random;
 use samples::reckon;
 use samples::reckon::Reckoned;
@@ -19,8 +20,9 @@ fn reckoned(d: Draft) -> Reckoned {
     reckon::reckon(build::part(&bytes, d.len))
 }
 
-fn same_costs(a: [u16; 40], b: [u16; 40]) -> bool {
-    for i in 0..40 {
+fn same_costs(a: [u16; limits::COSTS], b: [u16; limits::COSTS]) -> bool {
+    let costs = limits::COSTS;
+    for i in 0..costs {
         if a[i] != b[i] {
             return false;
         }

@@ -2,6 +2,7 @@
 use crate::asked;
 use crate::asked_log;
 use crate::compare;
+use crate::logged;
 use crate::tally;
 use crate::tally::Tally;
 use crate::walks;
@@ -66,7 +67,11 @@ fn logs(t: Tally, first: &[u8], second: &[u8]) -> Tally {
 
 // A buffer that is too short for one of the two, while the other is asked with a long one.
 fn short(t: Tally, s: &[u8]) -> Tally {
-    tally::noted(t, tally::ONE_SHORT, asked_log::log_refused(s, 546, 8, 0))
+    tally::noted(
+        t,
+        tally::ONE_SHORT,
+        asked_log::log_refused(s, logged::SHORT, 8, 0),
+    )
 }
 
 // All of them.

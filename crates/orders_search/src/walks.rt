@@ -10,13 +10,14 @@ use brute_force::logs::Log;
 use brute_force::steps;
 use samples::build;
 use samples::build::Draft;
+use samples::limits;
 use samples::random;
 use samples::reckon;
 use samples::reckon::Reckoned;
 
 // What is reckoned of a book once; the choices as a number and as a mask.
 pub struct Case {
-    pub costs: [u16; 40],
+    pub costs: [u16; limits::COSTS],
     pub count: usize,
     pub choices: u64,
     pub facts: Literals,
@@ -71,7 +72,7 @@ fn along(t: Tally, s: &[u8], all: &[u64], case: Case) -> Way {
         tally: t,
         log: logs::begun(facts),
     };
-    let records: u8 = 21;
+    let records = limits::RECORDS;
     for i in 0..records {
         way = onward(way, s, all, case);
     }
@@ -153,7 +154,7 @@ fn spoilt_at(t: Tally, s: &[u8], case: Case, known: Literals, bit: u64) -> Tally
 }
 
 // A known set spoilt at each choice, at the two variables after them and at the last bit.
-fn spoilt_sets(t: Tally, s: &[u8], case: Case, seed: u64) -> Tally {
+pub fn spoilt_sets(t: Tally, s: &[u8], case: Case, seed: u64) -> Tally {
     let known = known_set(case, seed);
     let mut after = spoilt_at(t, s, case, known, fillings::power(63));
     let end = std::num::wrapping_add_usize(case.count, 2);
@@ -187,7 +188,7 @@ fn refused(t: Tally, s: &[u8], number: u8, place: usize) -> Tally {
 }
 
 // The place of a log of so many steps among the kinds.
-fn place_of(steps: u64) -> usize {
+pub fn place_of(steps: u64) -> usize {
     if steps < 7 {
         tally::STEPS + steps as usize
     } else {

@@ -2,6 +2,7 @@
 use book::Book;
 use book::Reading;
 use book::Verdict;
+use samples::limits;
 use samples::reckon::Reckoned;
 
 // Whether a verdict has this number and this place; number 0 stands for a book that is accepted.
@@ -30,9 +31,10 @@ fn same_masks(a: [u64; 128], b: [u64; 128]) -> bool {
     same
 }
 
-fn same_costs(table: [[u16; 2]; 20], row: [u16; 40]) -> bool {
+fn same_costs(table: [[u16; 2]; Book::MAX_CHOICES], row: [u16; limits::COSTS]) -> bool {
     let mut same = true;
-    for i in 0..20 {
+    let choices = Book::MAX_CHOICES;
+    for i in 0..choices {
         if table[i][0] != row[2 * i] {
             same = false;
         }
@@ -72,7 +74,7 @@ fn same_rules(book: Book, due: Reckoned) -> bool {
 }
 
 // Whether a reading and a table of costs are what is reckoned, the book beside a refusal and its costs included.
-pub fn agree(reading: Reading, costs: [[u16; 2]; 20], due: Reckoned) -> bool {
+pub fn agree(reading: Reading, costs: [[u16; 2]; Book::MAX_CHOICES], due: Reckoned) -> bool {
     let verdict = reading.verdict;
     if !says(verdict, due.number, due.place) {
         return false;

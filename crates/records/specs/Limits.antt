@@ -3,11 +3,11 @@ use Prim.Native.Nat.{ℕ, _+_, _*_}
 
 -- V, the variables, at most.
 abbrev pub maxVariables : ℕ
-maxVariables = 32
+maxVariables = 48
 
 -- U, the choices, at most.
 abbrev pub maxChoices : ℕ
-maxChoices = 20
+maxChoices = 32
 
 -- R, the rules, at most.
 abbrev pub maxRules : ℕ

@@ -19,9 +19,9 @@ pub struct Book {
 
 // The limits of a book, and of the log that is written for it.
 impl Book {
-    pub const MAX_VARIABLES: usize = 32;
+    pub const MAX_VARIABLES: usize = 48;
 
-    pub const MAX_CHOICES: usize = 20;
+    pub const MAX_CHOICES: usize = 32;
 
     pub const MAX_RULES: usize = 128;
 

@@ -1,10 +1,11 @@
 // Books retyped: other bytes, with the same choices, costs and facts; and the fillings that obey the rules are the same when
-// restricted to the choices.
+// restricted to the choices. Besides them small books spread over the variables of the largest.
 mod helpers;
 mod implied;
 mod order;
 mod rules;
 mod split;
+pub mod spread;
 mod written;
 
 use rules::Rules;

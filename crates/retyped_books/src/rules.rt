@@ -1,6 +1,7 @@
 // The rules of a book as masks, which are changed one by one. Bit v - 1 of a mask stands for variable v.
 use brute_force::fillings;
 use brute_force::fillings::Literals;
+use samples::limits;
 use samples::random;
 use samples::reckon::Reckoned;
 
@@ -19,7 +20,7 @@ pub struct Rules {
 impl Rules {
     pub const ROOM: usize = 128;
 
-    pub const VARIABLES: usize = 32;
+    pub const VARIABLES: usize = limits::VARIABLES as usize;
 
     pub const LITERALS: u32 = 8;
 }

@@ -6,6 +6,7 @@ use brute_force::fillings::Literals;
 use brute_force::logs;
 use samples::build;
 use samples::build::Draft;
+use samples::limits;
 use samples::reckon::Reckoned;
 
 fn byte_of(n: usize) -> u8 {
@@ -13,11 +14,15 @@ fn byte_of(n: usize) -> u8 {
 }
 
 // The cost at a place of the row of costs, or 0.
-fn cost_at(costs: [u16; 40], place: usize) -> u16 {
-    if place < 40 { costs[place] } else { 0 }
+pub fn cost_at(costs: [u16; limits::COSTS], place: usize) -> u16 {
+    if place < limits::COSTS {
+        costs[place]
+    } else {
+        0
+    }
 }
 
-fn with_costs(d: Draft, costs: [u16; 40], choices: usize) -> Draft {
+fn with_costs(d: Draft, costs: [u16; limits::COSTS], choices: usize) -> Draft {
     let mut made = d;
     for i in 0..choices {
         let yes = std::num::wrapping_add_usize(i, i);

@@ -1,4 +1,7 @@
 // Books as bytes: records put one after another into a draft.
+ghost use Prim.Native.Nat.{_≤_};
+ghost use lib.ListN.{length};
+use crate::limits;
 
 // The bytes put so far, at the start of a room that holds the longest book and more; and the generator's state, which a
 // book that is made up takes along.
@@ -111,11 +114,15 @@ pub fn negated(v: u8) -> u8 {
     std::num::wrapping_sub_u8(0, v)
 }
 
-// Rules of eight literals, the first variable going from 1 to 25 and round again.
+// The variables that a rule of the most literals, one after another, can begin with.
+const FIRST_VARIABLES: u8 = limits::VARIABLES - limits::LITERALS + 1;
+
+// Rules of the most literals, beginning with variable 1, with 2, .. and round again.
 fn long_rules(d: Draft, rules: u8) -> Draft {
     let mut made = d;
     for i in 0..rules {
-        made = long_rule(made, std::num::wrapping_add_u8(i % 25, 1), 8);
+        let first = std::num::wrapping_add_u8(i % FIRST_VARIABLES, 1);
+        made = long_rule(made, first, limits::LITERALS);
     }
     made
 }
@@ -131,8 +138,16 @@ pub fn facts_no(d: Draft, choices: u8) -> Draft {
 
 // The longest book: every count and every record at its most.
 pub fn longest() -> Draft {
-    let d = costs(header(empty(), 32, 20, 128), 20);
-    end(facts_no(long_rules(d, 128), 20))
+    let d = header(empty(), limits::VARIABLES, limits::CHOICES, limits::RULES);
+    let d = long_rules(costs(d, limits::CHOICES), limits::RULES);
+    end(facts_no(d, limits::CHOICES))
+}
+
+// So many bytes, or as many as a room has.
+pub fn fitting(room: &[u8], len: usize) -> usize
+    ensures { λ r. ⌜ r ≤ length (now (room .entry)) ⌝ }
+{
+    if len < room.len() { len } else { room.len() }
 }
 
 // The first bytes, as many as are asked for.

@@ -1,11 +1,12 @@
 // The bytes of a record after its mark: a rule's count, and the fields.
 ghost use Prim.Native.Nat.{_<_};
+use crate::limits;
 use crate::machine;
 use crate::machine::Machine;
 
 // A rule's count, which is refused before its literals are waited for. A rule of no literals ends with it.
 pub fn count(mut m: Machine, b: u8) -> Machine {
-    if b > 8 {
+    if b > limits::LITERALS {
         m.number = 5;
         return m;
     }
@@ -25,9 +26,9 @@ pub fn count(mut m: Machine, b: u8) -> Machine {
 fn header_field(mut m: Machine, b: u8) -> Machine {
     let left = m.left;
     let most = match left {
-        3 => 32,
-        2 => least(20, m.variables),
-        _ => 128,
+        3 => limits::VARIABLES,
+        2 => least(limits::CHOICES, m.variables),
+        _ => limits::RULES,
     };
     if b > most {
         m.bad = 3;

@@ -3,6 +3,7 @@ pub mod build;
 pub mod counter;
 pub mod edits;
 mod fields;
+pub mod limits;
 mod machine;
 pub mod random;
 pub mod reckon;

@@ -1,6 +1,7 @@
 // The format of a book reckoned a byte at a time: one pass that looks neither ahead nor back, so that it shares no way
 // of reading with the reader that it is held against.
 use crate::fields;
+use crate::limits;
 use crate::machine;
 use crate::machine::Machine;
 
@@ -16,7 +17,7 @@ pub struct Reckoned {
     pub no: [u64; 128],
     pub facts_yes: u64,
     pub facts_no: u64,
-    pub costs: [u16; 40],
+    pub costs: [u16; limits::COSTS],
 }
 
 // The first letter of the mark that is due; after the rules E will do for F.
@@ -133,12 +134,12 @@ fn keep(masks: &mut [u64; 128], nth: u8, mask: u64) {
     }
 }
 
-fn keep_cost(costs: &mut [u16; 40], nth: u8, cost: u16) {
+fn keep_cost(costs: &mut [u16; limits::COSTS], nth: u8, cost: u16) {
     if nth == 0 {
         return;
     }
     let i = (nth - 1) as usize;
-    if i < 40 {
+    if i < limits::COSTS {
         costs[i] = cost;
     }
 }
@@ -154,7 +155,7 @@ fn refused(number: u8, place: usize) -> Reckoned {
         no: [0; 128],
         facts_yes: 0,
         facts_no: 0,
-        costs: [0; 40],
+        costs: [0; limits::COSTS],
     }
 }
 
@@ -163,7 +164,7 @@ pub fn reckon(s: &[u8]) -> Reckoned {
     let mut m = machine::start();
     let mut yes = [0; 128];
     let mut no = [0; 128];
-    let mut costs = [0; 40];
+    let mut costs = [0; limits::COSTS];
     for i in 0..s.len() {
         if m.number == 0 {
             m = step(m, s[i]);

@@ -1,4 +1,4 @@
--- The loop counts `i` up to 20.
+-- The loop counts `i` up to `choices`.
 use borrow.Author.Needs.{needs}
 use Prim.Native.Nat.{_-_}
 use Rattle.readings.proofs.same_costs.Statement.{statement}
@@ -6,7 +6,7 @@ use Rattle.readings.proofs.same_costs.Tie as tie
 
 pub same-costs-spec : {M : Type 1} → statement M
 same-costs-spec =
-    tie.close (tie.spec (λ _ _ _ _ _ _. Unit {0}) (λ _ _ _ _ _ i. 20 - i) (λ c. search needs) (λ c. search needs)
+    tie.close (tie.spec (λ _ _ _ _ _ _ _. Unit {0}) (λ _ _ _ choices _ _ i. choices - i) (λ c. search needs) (λ c. search needs)
     (λ c. search needs) (λ c. search needs) (λ c. search needs) (λ c. search needs) (λ c. search needs)
     (λ c. search needs) (λ c. search needs) (λ c. search needs) (λ c. search needs) (λ c. search needs)
     (λ c. search needs) (λ c. search needs) (λ c. search needs) (λ c. search needs) (λ c. search needs)

@@ -1,4 +1,4 @@
--- The loop counts `n` up to 8.
+-- The loop counts `n` up to `files`.
 use borrow.Author.Needs.{needs}
 use Prim.Native.Nat.{_-_}
 use Rattle.orders_dimacs.proofs.groups.buffers.Statement.{statement}
@@ -6,7 +6,7 @@ use Rattle.orders_dimacs.proofs.groups.buffers.Tie as tie
 
 pub buffers-spec : {M : Type 1} → statement M
 buffers-spec =
-    tie.close (tie.spec (λ _ _ _ _ _. Unit {0}) (λ _ _ _ _ n. 8 - n) (λ c κs. search needs) (λ c κs. search needs)
-    (λ c. search needs) (λ c κs. search needs) (λ c κs. search needs) (λ c κs. search needs) (λ c κs. search needs)
-    (λ c κs. search needs) (λ c. search needs) (λ c κs. search needs) (λ c κs. search needs) (λ c. search needs)
-    (λ c. search needs) (λ c. search needs) (λ c. search needs))
+    tie.close (tie.spec (λ _ _ _ _ _ _. Unit {0}) (λ _ files _ _ _ n. files - n) (λ c κs. search needs)
+    (λ c κs. search needs) (λ c. search needs) (λ c κs. search needs) (λ c κs. search needs) (λ c κs. search needs)
+    (λ c κs. search needs) (λ c κs. search needs) (λ c. search needs) (λ c κs. search needs) (λ c κs. search needs)
+    (λ c. search needs) (λ c. search needs) (λ c. search needs) (λ c. search needs))

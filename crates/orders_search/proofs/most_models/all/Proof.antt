@@ -1,4 +1,4 @@
--- The loop counts `choices` up to 21.
+-- The loop counts `choices` up to `end`.
 use borrow.Author.Needs.{needs}
 use Prim.Native.Nat.{_-_}
 use Rattle.orders_search.proofs.most_models.all.Statement.{statement}
@@ -6,5 +6,5 @@ use Rattle.orders_search.proofs.most_models.all.Tie as tie
 
 pub all-spec : {M : Type 1} → statement M
 all-spec =
-    tie.close (tie.spec (λ _ _ _ _. Unit {0}) (λ _ _ _ choices. 21 - choices) (λ c. search needs)
+    tie.close (tie.spec (λ _ _ _ _ _. Unit {0}) (λ _ end _ _ choices. end - choices) (λ c. search needs)
     (λ c κs. search needs) (λ c. search needs) (λ c. search needs) (λ c. search needs) (λ c. search needs))
