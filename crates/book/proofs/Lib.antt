@@ -2,6 +2,7 @@ pub mod BookLaws
 pub mod CostLaws
 pub mod FactLaws
 pub mod HeaderLaws
+pub mod LongestLaws
 pub mod ManyLaws
 pub mod NumberLaws
 pub mod PaddedLaws

@@ -3,8 +3,9 @@
 use mathlib.Core.Path.{_≡_, refl}
 use mathlib.Core.Bool.{Bool, true, false, cond}
 use mathlib.Core.List.{List}
-use Prim.Native.Nat.{ℕ, suc}
+use Prim.Native.Nat.{ℕ, suc, _≤_}
 use native.Mathlib.Omega.{arith}
+use borrow.Author.Tests.{ltb-false}
 use lib.Dec.{ltb}
 use lib.ListN.{length}
 use Rattle.records.specs.Format.{Read, value, refused, andThen, OrderBook, headerAt, costAt, ruleAt, many, factsFrom, fromRules, readBook}
@@ -24,11 +25,12 @@ pub record Parts (s : List ℕ) (b : OrderBook) : Type 0 where
   pub rules-read : many (λ i. ruleAt (b .header .variables)) s (b .header .rules) 1 rules-from ≡ value (b .rules) facts-from
   pub facts-end : ℕ
   pub facts-read : factsFrom s (b .header .choices) (suc (length s)) 0 facts-from ≡ value (b .facts) facts-end
+  pub nothing-after : length s ≤ facts-end
 
 -- no byte after the end
-book-ends : (late : Bool) (a : OrderBook) (p : ℕ) {b : OrderBook} {end : ℕ} → cond late (refused 7 p) (value a p) ≡ value b end → a ≡ b
+book-ends : (late : Bool) (a : OrderBook) (p : ℕ) {b : OrderBook} {end : ℕ} → cond late (refused 7 p) (value a p) ≡ value b end → (late ≡ false) × (a ≡ b)
 book-ends true a p e = let k : _≡_ {A = ℕ} 0 1 = cc in absurd (omega arith)
-book-ends false a p e = cc
+book-ends false a p e = (refl, cc)
 
 pub parts : (s : List ℕ) {b : OrderBook} {end : ℕ} → readBook s ≡ value b end → Parts s b
 unfolding readBook fromRules
@@ -38,7 +40,8 @@ parts s e =
     let c = then-value (many costAt s (h .0 .choices) 1 5) _ (rw (w .0) at (h .3)) in
     let r = then-value (many (λ i. ruleAt (h .0 .variables)) s (h .0 .rules) 1 (c .1)) _ (c .3) in
     let f = then-value (factsFrom s (h .0 .choices) (suc (length s)) 0 (r .1)) _ (r .3) in
-    rw (← (book-ends (ltb (f .1) (length s)) _ (f .1) (f .3))) (record {
+    let e = book-ends (ltb (f .1) (length s)) _ (f .1) (f .3) in
+    rw (← (e .1)) (record {
       header-good = rw (w .0) at (w .1);
       rules-from = c .1;
       costs-read = c .2;
@@ -46,6 +49,7 @@ parts s e =
       rules-read = r .2;
       facts-end = f .1;
       facts-read = f .2;
+      nothing-after = ltb-false _ _ (e .0);
     })
 
 -- ---- the reader's answer, taken back

@@ -3,7 +3,7 @@
 use mathlib.Core.Path.{_≡_, refl}
 use mathlib.Core.Bool.{true}
 use mathlib.Core.List.{List, map}
-use Prim.Native.Nat.{ℕ, _+_}
+use Prim.Native.Nat.{ℕ, _+_, _≤_}
 use native.Mathlib.Omega.{arith}
 use borrow.Author.Tests.{leb-true}
 use lib.Dec.{leb}
@@ -27,7 +27,8 @@ rule-fails (fails n) e f = cc
 pub record LiteralsRise (n : ℕ) (ls : List Literal) : Type 0 where
   pub rises : rising n 0 ls ≡ true
 
-pub rule-whole : (n : ℕ) (t : List ℕ) {ls : List Literal} {len : ℕ} → ruleAt n t ≡ says ls len → Good (LiteralsRise n) t ls len
+pub rule-whole : (n : ℕ) (t : List ℕ) {ls : List Literal} {len : ℕ} → ruleAt n t ≡ says ls len
+    → (len ≤ 3 + maxLiterals) × Good (LiteralsRise n) t ls len
 unfolding ruleAt ruleValues
 rule-whole n t {ls} {len} e =
     let o = checked-first-says (opened RL 3 t) (ruleValues n t) e in
@@ -35,7 +36,8 @@ rule-whole n t {ls} {len} e =
     let all = check-says (leb (3 + byte t 2) (length t)) 1 _ (most .1) in
     let rise = check-says (rising n 0 lits) 6 _ (all .1) in
     let same = says-same (rise .1) in
-    record { within = rw (same .1) (leb-true _ _ (all .0)); good = record { rises = rw (← (same .0)) (rise .0) } }
+    let few : byte t 2 ≤ maxLiterals = leb-true _ _ (most .0) in
+    (omega (arith, same .1), record { within = rw (same .1) (leb-true _ _ (all .0)); good = record { rises = rw (← (same .0)) (rise .0) } })
   where
     lits : List Literal
     lits = map ofByte (take (byte t 2) (drop 3 t))
@@ -49,5 +51,5 @@ rule-says n t {r} {two} {len} e f = go (ruleAt n t) refl e
     go : (m : RecordRead (List Literal)) → ruleAt n t ≡ m → r ≡ ruleAnswer m → Whole (λ ls. two ≡ masks ls) t len m
     go (says ls k) d g =
         let size : k ≡ len = cc in
-        record { item = ls; said = rw size refl; within = rw size at (rule-whole n t d .within); holds = cc }
+        record { item = ls; said = rw size refl; within = rw size at (rule-whole n t d .1 .within); holds = cc }
     go (fails n) d g = let z : _≡_ {A = ℕ} 0 1 = cc in absurd (omega arith)

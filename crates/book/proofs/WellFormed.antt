@@ -54,7 +54,7 @@ well-formed s {b} e =
     let p = parts s e in
     let h = p .header-good .good in
     let cs = many-good costAt s GoodCost (λ i t c len e. cost-whole i t e .1) (b .header .choices) 1 5 (p .header-good .within) (p .costs-read) in
-    let rs = many-good (λ i. ruleAt (b .header .variables)) s (LiteralsRise (b .header .variables)) (λ i t ls len. rule-whole (b .header .variables) t)
+    let rs = many-good (λ i. ruleAt (b .header .variables)) s (LiteralsRise (b .header .variables)) (λ i t ls len e. rule-whole (b .header .variables) t e .1)
     (b .header .rules) 1 (p .rules-from) (cs .within) (p .rules-read) in
     record {
       few-variables = h .few-variables;

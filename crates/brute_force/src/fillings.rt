@@ -1,4 +1,5 @@
 // All fillings of a book gone through one by one. Bit v - 1 of a filling, and of a mask, stands for variable v.
+use samples::limits;
 use samples::reckon::Reckoned;
 
 // The fillings that obey every rule of a book of up to twenty variables, at the start of a room, and whether they are all
@@ -105,12 +106,17 @@ pub fn holds(filling: u64, all: Literals) -> bool {
 }
 
 // The mask at a place, or 0.
-fn entry(masks: &[u64; 128], i: usize) -> u64 {
-    if i < 128 { masks[i] } else { 0 }
+fn entry(masks: &[u64; limits::MASKS], i: usize) -> u64 {
+    if i < limits::MASKS { masks[i] } else { 0 }
 }
 
 // Whether a filling obeys the first `rules` rules.
-pub fn obeys(yes: &[u64; 128], no: &[u64; 128], rules: usize, filling: u64) -> bool {
+pub fn obeys(
+    yes: &[u64; limits::MASKS],
+    no: &[u64; limits::MASKS],
+    rules: usize,
+    filling: u64,
+) -> bool {
     for i in 0..rules {
         let rule = Literals {
             yes: entry(yes, i),

@@ -21,9 +21,10 @@ pub fn says(verdict: Verdict, number: u8, place: usize) -> bool {
     }
 }
 
-fn same_masks(a: [u64; 128], b: [u64; 128]) -> bool {
+fn same_masks(a: [u64; Book::MAX_RULES], b: [u64; limits::MASKS]) -> bool {
     let mut same = true;
-    for i in 0..128 {
+    let rules = limits::MASKS;
+    for i in 0..rules {
         if a[i] != b[i] {
             same = false;
         }

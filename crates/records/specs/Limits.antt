@@ -36,3 +36,7 @@ maxLog = maxChoices * maxStepBytes + okSize
 -- The bytes of a book without facts, at most: HD, CS for each choice, RL for each rule with the most literals, EN.
 abbrev pub maxWithoutFacts : ℕ
 maxWithoutFacts = 5 + maxChoices * 7 + maxRules * (3 + maxLiterals) + 2
+
+-- The bytes of a book, at most: with FA for each choice besides.
+abbrev pub maxBook : ℕ
+maxBook = maxWithoutFacts + maxChoices * 3

@@ -18,11 +18,11 @@ pub struct Rules {
 }
 
 impl Rules {
-    pub const ROOM: usize = 128;
+    pub const ROOM: usize = limits::MASKS;
 
     pub const VARIABLES: usize = limits::VARIABLES as usize;
 
-    pub const LITERALS: u32 = 8;
+    pub const LITERALS: u32 = limits::LITERALS as u32;
 }
 
 pub fn of_book(b: Reckoned, seed: u64) -> Rules {

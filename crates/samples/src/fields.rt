@@ -70,7 +70,7 @@ fn cost_ends(mut m: Machine, low: u8, back: u8) -> Machine {
     if cost == 0 {
         m.bad = 4;
     }
-    if cost > 999 {
+    if cost > limits::COST {
         m.bad = 4;
     }
     let begun = m.costs_begun;

@@ -13,8 +13,8 @@ pub struct Reckoned {
     pub variables: usize,
     pub choices: usize,
     pub rules: usize,
-    pub yes: [u64; 128],
-    pub no: [u64; 128],
+    pub yes: [u64; limits::MASKS],
+    pub no: [u64; limits::MASKS],
     pub facts_yes: u64,
     pub facts_no: u64,
     pub costs: [u16; limits::COSTS],
@@ -124,12 +124,12 @@ fn size(b: u8) -> usize {
 }
 
 // Sets the entry that is the `nth`, counted from 1.
-fn keep(masks: &mut [u64; 128], nth: u8, mask: u64) {
+fn keep(masks: &mut [u64; limits::MASKS], nth: u8, mask: u64) {
     if nth == 0 {
         return;
     }
     let i = (nth - 1) as usize;
-    if i < 128 {
+    if i < limits::MASKS {
         masks[i] = mask;
     }
 }
@@ -151,8 +151,8 @@ fn refused(number: u8, place: usize) -> Reckoned {
         variables: 0,
         choices: 0,
         rules: 0,
-        yes: [0; 128],
-        no: [0; 128],
+        yes: [0; limits::MASKS],
+        no: [0; limits::MASKS],
         facts_yes: 0,
         facts_no: 0,
         costs: [0; limits::COSTS],
@@ -162,8 +162,8 @@ fn refused(number: u8, place: usize) -> Reckoned {
 // The book that the bytes are, or why they are none.
 pub fn reckon(s: &[u8]) -> Reckoned {
     let mut m = machine::start();
-    let mut yes = [0; 128];
-    let mut no = [0; 128];
+    let mut yes = [0; limits::MASKS];
+    let mut no = [0; limits::MASKS];
     let mut costs = [0; limits::COSTS];
     for i in 0..s.len() {
         if m.number == 0 {
@@ -193,7 +193,7 @@ pub fn reckon(s: &[u8]) -> Reckoned {
 
 // Whether the rule at a place has no literals.
 fn is_empty_rule(b: Reckoned, i: usize) -> bool {
-    if i < 128 {
+    if i < limits::MASKS {
         b.yes[i] | b.no[i] == 0
     } else {
         false

@@ -2,6 +2,9 @@
 use samples::build;
 use samples::counter;
 
+// One more than the number of the last book of `bench/`.
+const AFTER_LAST: u8 = 56;
+
 // The book in a file of the folder that the program runs in.
 fn book(path: &[u8]) {
     let fd = console::open_named(path);
@@ -39,7 +42,8 @@ fn order(letter: u8) {
 
 // The books of `bench/`.
 fn bench_books() {
-    for n in 1..30 {
+    let end = AFTER_LAST;
+    for n in 1..end {
         bench(n);
     }
 }
@@ -59,7 +63,7 @@ fn refused_books() {
     refused(9);
 }
 
-// Then no byte, and 5,000 bytes of which the first 1,615 are a book.
+// Then no byte, and 5,000 bytes of which the first 1,735 are a book.
 fn main() {
     orders();
     bench_books();

@@ -12,7 +12,7 @@ read-facts-requires : tie.Need-read-facts-requires
 read-facts-requires c κs =
     let p = c .before .before .before .before .before .pre in
     let r = rules-say _ (c .before .before .before .read-rules .ensures) (c .before .after2 .given .1) in
-    (omega (arith, p .0, p .1 .0), many-good (λ i. ruleAt _) _ (LiteralsRise _) (λ i t ls len. rule-whole _ t) _ _ _ (p .1 .1 .1) (r .said) .within)
+    (omega (arith, p .0, p .1 .0), many-good (λ i. ruleAt _) _ (LiteralsRise _) (λ i t ls len e. rule-whole _ t e .1) _ _ _ (p .1 .1 .1) (r .said) .within)
 
 pub read-from-rules-spec : {M : Type 1} → statement M
 read-from-rules-spec =

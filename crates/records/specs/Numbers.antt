@@ -1,0 +1,15 @@
+-- The numbers that document 02 (E4) names, computed from the limits.
+use mathlib.Core.Path.{_≡_, refl}
+use Rattle.records.specs.Limits.{maxLog, maxWithoutFacts, maxBook}
+
+-- The longest log.
+pub log-bytes : maxLog ≡ 1255
+log-bytes = refl
+
+-- The longest book without facts, which is what the buffer of `read_dimacs` must have room for.
+pub without-facts-bytes : maxWithoutFacts ≡ 1639
+without-facts-bytes = refl
+
+-- The longest book.
+pub book-bytes : maxBook ≡ 1735
+book-bytes = refl
