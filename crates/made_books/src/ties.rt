@@ -42,16 +42,10 @@ fn guarded_rules(d: Draft) -> Draft {
     made
 }
 
-// Facts over the first seven choices, all yes.
-fn facts(d: Draft) -> Draft {
-    let d = build::fact(build::fact(build::fact(d, 1), 2), 3);
-    build::fact(build::fact(build::fact(build::fact(d, 4), 5), 6), 7)
-}
-
 // A book of ten variables, made up from a seed.
 pub fn made(seed: u64) -> Draft {
     let mut d = build::header(build::empty(), 10, CHOICES, RULES);
     d.seed = random::next(seed);
     let d = made::costs(d, CHOICES, 2);
-    build::end(facts(guarded_rules(d)))
+    build::end(build::first_facts(guarded_rules(d), 7, true))
 }

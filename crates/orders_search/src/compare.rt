@@ -93,7 +93,7 @@ fn seen(t: Tally, b: Reckoned, due: Due) -> Tally {
 }
 
 // The answers to a book.
-fn asked(t: Tally, s: &[u8], b: Reckoned, due: Due) -> Tally {
+pub fn asked(t: Tally, s: &[u8], b: Reckoned, due: Due) -> Tally {
     let read = readings::agree(engine::read_book(s), engine::read_costs(s), b);
     let t = tally::noted(t, tally::READING, read);
     let t = tally::noted(t, tally::MODEL, model_agrees(s, b, due));

@@ -52,20 +52,11 @@ fn rules(d: Draft, like: Like, place: u8) -> Draft {
     made
 }
 
-// Facts over the first choices, all yes.
-fn facts(d: Draft, givens: u8) -> Draft {
-    let mut made = d;
-    for i in 0..givens {
-        made = build::fact(made, std::num::wrapping_add_u8(i, 1));
-    }
-    made
-}
-
 // A book whose rule at a place has no literals.
 fn book_at(like: Like, place: u8) -> Draft {
     let d = build::header(build::empty(), like.variables, like.choices, like.rules);
     let d = rules(build::costs(d, like.choices), like, place);
-    build::end(facts(d, like.givens))
+    build::end(build::first_facts(d, like.givens, true))
 }
 
 // A book for each place of the rule that has no literals.

@@ -64,14 +64,6 @@ fn set_at(i: u8) -> u8 {
     if place < 27 { SETS[place] } else { 0 }
 }
 
-fn facts(d: Draft, givens: u8) -> Draft {
-    let mut made = d;
-    for i in 0..givens {
-        made = build::fact(made, std::num::wrapping_add_u8(i, 1));
-    }
-    made
-}
-
 // Choice v makes a helper yes, and that helper the choice that is `pairs` after v.
 fn pair_rules(d: Draft, pairs: u8) -> Draft {
     let mut made = d;
@@ -93,7 +85,7 @@ fn pairs(variables: u8, pairs: u8) -> Large {
         choices,
     );
     Large {
-        book: build::end(facts(pair_rules(d, pairs), pairs)),
+        book: build::end(build::first_facts(pair_rules(d, pairs), pairs, true)),
         givens: pairs,
         steps: pairs,
         from_one: true,
@@ -130,7 +122,7 @@ fn sets() -> Large {
     let d = build::header(build::empty(), limits::VARIABLES, limits::CHOICES, LEFT);
     let d = set_rules(build::costs(d, limits::CHOICES));
     Large {
-        book: build::end(facts(d, GIVENS)),
+        book: build::end(build::first_facts(d, GIVENS, true)),
         givens: GIVENS,
         steps: LEFT,
         from_one: false,

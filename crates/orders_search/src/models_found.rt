@@ -53,12 +53,17 @@ fn lies_within(models: u32, due: Bounds) -> bool {
     models <= due.most
 }
 
+// So many models, held against their bounds.
+pub fn bounded(t: Tally, models: u32, due: Bounds) -> Tally {
+    tally::noted(t, tally::MODELS_FOUND, lies_within(models, due))
+}
+
 // The engine's models for one more good book. (For one that is refused no model is looked for.)
 pub fn asked(t: Tally, s: &[u8], due: Bounds) -> Tally {
     let models = models_found(s);
     let t = tally::added(t, tally::FOUND_IN_ALL, models);
     let t = tally::added(t, tally::MOST_IN_ALL, due.most);
-    tally::noted(t, tally::MODELS_FOUND, lies_within(models, due))
+    bounded(t, models, due)
 }
 
 // The models of the reckoned run for one more good book, and what it keeps at its end.

@@ -106,7 +106,7 @@ fn book(choices: u8, givens: u8) -> Draft {
     } else {
         grid(choices)
     };
-    build::end(build::facts_no(d, givens))
+    build::end(build::first_facts(d, givens, false))
 }
 
 // One book. Nothing follows but the facts; the fillings of a grid are too many to be gone through.

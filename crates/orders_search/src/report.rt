@@ -150,7 +150,7 @@ fn models_in_all(t: Tally) {
 pub fn all(heading: &[u8], t: Tally) {
     write(heading);
     results(t);
-    if t.tried[tally::MODELS_FOUND] > 0 {
+    if t.tried[tally::MODELS_RECKONED] > 0 {
         models_in_all(t);
     }
     counts(t);

@@ -4,6 +4,7 @@ use crate::asked;
 use crate::compare;
 use crate::compare::Due;
 use crate::logged;
+use crate::models_found;
 use crate::tally;
 use crate::tally::Tally;
 use crate::walks;
@@ -12,7 +13,6 @@ use brute_force::fillings;
 use brute_force::fillings::Literals;
 use brute_force::logs;
 use brute_force::logs::Log;
-use brute_force::steps;
 use brute_force::steps::Taken;
 use retyped_books::spread;
 use retyped_books::spread::Small;
@@ -47,14 +47,6 @@ fn spread_step(small: Small, step: Taken) -> Taken {
     }
 }
 
-// The step due in the large book from a known set of the small one.
-fn due(like: Spread, all: &[u64], known: Literals) -> Taken {
-    let case = like.case;
-    let costs = case.costs;
-    let step = steps::next(all, costs, case.choices, known, case.consequence);
-    spread_step(like.small, step)
-}
-
 // The way and its log in the large book, and the known set in the small one.
 struct Way {
     tally: Tally,
@@ -68,20 +60,12 @@ fn onward(way: Way, s: &[u8], all: &[u64], like: Spread) -> Way {
     if log.ended {
         return way;
     }
-    let case = like.case;
-    let costs = case.costs;
-    let known = way.known;
-    let step = steps::next(all, costs, case.choices, known, case.consequence);
+    let step = walks::due(all, like.case, way.known);
     let spread = spread_step(like.small, step);
     let t = way.tally;
-    let agrees = asked::step_agrees(s, log.known, spread);
     Way {
-        tally: tally::seen(
-            tally::noted(t, tally::ON_THE_WAY, agrees),
-            tally::TIED,
-            step.tied,
-        ),
-        known: fillings::joined(known, step.new),
+        tally: walks::one_step(t, s, log.known, spread),
+        known: fillings::joined(way.known, step.new),
         log: logs::onward(log, spread),
     }
 }
@@ -105,7 +89,8 @@ fn along(t: Tally, s: &[u8], all: &[u64], like: Spread) -> Way {
 // A step from the facts and some of the consequence.
 fn from_any(t: Tally, s: &[u8], all: &[u64], like: Spread, seed: u64) -> Tally {
     let known = walks::known_set(like.case, seed);
-    let agrees = asked::step_agrees(s, with_others(like, known), due(like, all, known));
+    let step = spread_step(like.small, walks::due(all, like.case, known));
+    let agrees = asked::step_agrees(s, with_others(like, known), step);
     tally::noted(t, tally::FROM_ANY, agrees)
 }
 
@@ -124,24 +109,38 @@ fn large_case(like: Spread) -> Case {
 
 // A book that has a model.
 fn good(t: Tally, s: &[u8], all: &[u64], like: Spread, seed: u64) -> Tally {
-    let large = large_case(like);
-    let forced = large.consequence;
-    let due = Due {
-        number: 0,
-        place: 0,
-        forced,
-    };
-    let agrees = compare::same_consequence(compare::consequence_said(s), due);
-    let t = tally::noted(t, tally::CONSEQUENCE, agrees);
     let way = along(t, s, all, like);
     let log = way.log;
     let t = tally::seen(way.tally, walks::place_of(log.steps), true);
     let t = from_any(t, s, all, like, seed);
-    let t = walks::spoilt_sets(t, s, large, random::next(seed));
+    let t = walks::spoilt_sets(t, s, large_case(like), random::next(seed));
     logged::whole(t, s, log)
 }
 
-// A small book that is good, with the fillings that obey its rules; the other choices are given where the state is odd.
+// The large book's reading, model and consequence, and how many models this takes.
+fn asked(t: Tally, s: &[u8], due: Due) -> Tally {
+    let t = compare::asked(t, s, reckon::reckon(s), due);
+    let bounds = models_found::bounds_of(due, limits::CHOICES as usize);
+    models_found::bounded(t, models_found::models_found(s), bounds)
+}
+
+// The book of a small one, with the fillings that obey its rules.
+fn compared(t: Tally, s: &[u8], all: &[u64], like: Spread, seed: u64) -> Tally {
+    let facts = like.case.facts;
+    let found = fillings::possible(all, facts);
+    let due = Due {
+        number: if found { 0 } else { 9 },
+        place: 0,
+        forced: with_others(like, like.case.consequence),
+    };
+    let t = asked(t, s, due);
+    if !found {
+        return logged::without_model(walks::without_model(t, s, with_others(like, facts)), s);
+    }
+    good(t, s, all, like, seed)
+}
+
+// A small book that is good; the other choices are given where the state is odd.
 fn spread_book(t: Tally, b: Reckoned, all: &[u64], seed: u64) -> Tally {
     let given = seed % 2 == 1;
     let small = spread::small_of(b);
@@ -152,18 +151,7 @@ fn spread_book(t: Tally, b: Reckoned, all: &[u64], seed: u64) -> Tally {
     };
     let d = spread::book(b, given);
     let bytes = d.bytes;
-    let s = build::part(&bytes, d.len);
-    let read = reckon::reckon(s);
-    let t = tally::noted(
-        t,
-        tally::READING,
-        readings::agree(engine::read_book(s), engine::read_costs(s), read) && read.number == 0,
-    );
-    let facts = with_others(like, like.case.facts);
-    if !fillings::possible(all, like.case.facts) {
-        return logged::without_model(walks::without_model(t, s, facts), s);
-    }
-    good(t, s, all, like, seed)
+    compared(t, build::part(&bytes, d.len), all, like, seed)
 }
 
 // One more book. Those that are refused have no large book.

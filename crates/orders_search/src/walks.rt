@@ -8,6 +8,7 @@ use brute_force::fillings::Literals;
 use brute_force::logs;
 use brute_force::logs::Log;
 use brute_force::steps;
+use brute_force::steps::Taken;
 use samples::build;
 use samples::build::Draft;
 use samples::limits;
@@ -37,8 +38,14 @@ pub fn case_of(all: &[u64], b: Reckoned) -> Case {
     }
 }
 
+// The step due from a known set.
+pub fn due(all: &[u64], case: Case, known: Literals) -> Taken {
+    let costs = case.costs;
+    steps::next(all, costs, case.choices, known, case.consequence)
+}
+
 // One step more on the way: the engine's held against the reckoned one.
-fn one_step(t: Tally, s: &[u8], known: Literals, due: steps::Taken) -> Tally {
+pub fn one_step(t: Tally, s: &[u8], known: Literals, due: Taken) -> Tally {
     let t = tally::noted(t, tally::ON_THE_WAY, asked::step_agrees(s, known, due));
     tally::seen(t, tally::TIED, due.tied)
 }
@@ -55,13 +62,12 @@ fn onward(way: Way, s: &[u8], all: &[u64], case: Case) -> Way {
     if log.ended {
         return way;
     }
-    let costs = case.costs;
     let known = log.known;
-    let due = steps::next(all, costs, case.choices, known, case.consequence);
+    let step = due(all, case, known);
     let t = way.tally;
     Way {
-        tally: one_step(t, s, known, due),
-        log: logs::onward(log, due),
+        tally: one_step(t, s, known, step),
+        log: logs::onward(log, step),
     }
 }
 
@@ -87,9 +93,8 @@ pub fn known_set(case: Case, mask: u64) -> Literals {
 // A step from one known set.
 fn from_one(t: Tally, s: &[u8], all: &[u64], case: Case, mask: u64) -> Tally {
     let known = known_set(case, mask);
-    let costs = case.costs;
-    let due = steps::next(all, costs, case.choices, known, case.consequence);
-    tally::noted(t, tally::FROM_ANY, asked::step_agrees(s, known, due))
+    let agrees = asked::step_agrees(s, known, due(all, case, known));
+    tally::noted(t, tally::FROM_ANY, agrees)
 }
 
 // Steps from some known sets.

@@ -127,11 +127,12 @@ fn long_rules(d: Draft, rules: u8) -> Draft {
     made
 }
 
-// Facts over the first choices, all no.
-pub fn facts_no(d: Draft, choices: u8) -> Draft {
+// Facts over the first choices, all yes or all no.
+pub fn first_facts(d: Draft, choices: u8, yes: bool) -> Draft {
     let mut made = d;
     for i in 0..choices {
-        made = fact(made, negated(std::num::wrapping_add_u8(i, 1)));
+        let v = std::num::wrapping_add_u8(i, 1);
+        made = fact(made, if yes { v } else { negated(v) });
     }
     made
 }
@@ -140,7 +141,7 @@ pub fn facts_no(d: Draft, choices: u8) -> Draft {
 pub fn longest() -> Draft {
     let d = header(empty(), limits::VARIABLES, limits::CHOICES, limits::RULES);
     let d = long_rules(costs(d, limits::CHOICES), limits::RULES);
-    end(facts_no(d, limits::CHOICES))
+    end(first_facts(d, limits::CHOICES, false))
 }
 
 // So many bytes, or as many as a room has.
