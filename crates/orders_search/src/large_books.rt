@@ -23,35 +23,8 @@ struct Large {
 }
 
 // The sets of five facts, as masks, from the smallest to the largest, as far as there are choices for them.
-const SETS: [u8; 27] = [
-    0,
-    1,
-    2,
-    4,
-    8,
-    16,
-    3,
-    5,
-    6,
-    9,
-    10,
-    12,
-    17,
-    18,
-    20,
-    24,
-    7,
-    11,
-    13,
-    14,
-    19,
-    21,
-    22,
-    25,
-    26,
-    28,
-    15,
-];
+const SETS: [u8; 27] =
+    *b"\x00\x01\x02\x04\x08\x10\x03\x05\x06\x09\x0a\x0c\x11\x12\x14\x18\x07\x0b\x0d\x0e\x13\x15\x16\x19\x1a\x1c\x0f";
 
 const GIVENS: u8 = 5;
 

@@ -121,16 +121,12 @@ fn walked_large() {
     report::all(b"books of 17 to 20 variables, walked:\n", t);
 }
 
-// Steps and logs of books of up to ten variables that are spread over the most.
+// Steps and logs of books of up to fourteen variables and ten choices that are spread over the most: small ones, some of them
+// without a model, and others in which more follows.
 fn walked_spread() {
     let any = kind(Form::Any, 10, 8, 9);
     let t = groups::each(tally::none(), Task::Spread, 600, any, 602214076602214076);
-    let planted = kind(Form::Planted, 10, 10, 3);
-    let t = groups::each(t, Task::Spread, 600, planted, 662607015662607015);
-    let core = kind(Form::Core, 10, 7, 9);
-    let t = groups::each(t, Task::Spread, 200, core, 138064852138064852);
-    let ties = kind(Form::Ties, 10, 8, 2);
-    let t = groups::each(t, Task::Spread, 400, ties, 299792458299792458);
+    let t = in_which_much_follows(t, Task::Spread, 200);
     report::all(
         b"books spread over 48 variables and 32 choices, walked:\n",
         t,
