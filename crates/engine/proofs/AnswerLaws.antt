@@ -14,27 +14,29 @@ use Rattle.book.proofs.WellFormed.{WellFormed, well-formed}
 use Rattle.book.specs.declared.Reading.{Reading}
 use Rattle.book.specs.declared.Verdict.the-variants as Verdict
 use Rattle.book.proofs.PartLaws.{book-refused}
-use Rattle.sat.specs.Laws.Fillings.{witness-some}
+use Rattle.sat.specs.Meaning.{Model}
+use Rattle.first_model.specs.Laws.Order.{first-as}
 use Rattle.problem.specs.Problem.{problemOf, given}
 use Rattle.problem.specs.Masked.{maskedFrom, yesIn, noIn}
 use Rattle.problem.specs.declared.MaskedProblem.{MaskedProblem}
 use Rattle.problem.proofs.BookLaws.{proper-book}
-use Rattle.consequence.specs.Meaning.{models, hasModel, consequenceOf, Theory, ModelOf}
-use Rattle.consequence.specs.Algorithm2.{Narrowed}
+use Rattle.consequence.specs.Meaning.{hasModel, consequenceOf, Theory, ModelOf}
+use Rattle.consequence.specs.Algorithm2.{ModelFilling, Narrowed}
 use Rattle.consequence.specs.Contracts.{Concluded}
 use Rattle.consequence.specs.Laws.Forcing.{none-contradicts}
-use Rattle.consequence.specs.Laws.Masks.{to-theory, none-to-theory}
-use Rattle.consequence.specs.Laws.Problems.{model-models, no-filling, consequence-demand}
+use Rattle.consequence.specs.Laws.Masks.{to-theory, of-theory, none-to-theory}
+use Rattle.consequence.specs.Laws.Problems.{model-filling, filling-model, no-filling, consequence-demand}
 use Rattle.consequence.specs.Laws.Algorithm2.{narrowed-problem}
 use Rattle.consequence.specs.declared.Consequence.{Consequence}
 use Rattle.consequence.specs.declared.Consequence.the-variants as Consequence
-use Rattle.engine.specs.Calls.{withModel, ModelSays, consequenceAnswer, FillsIn, FoundFor, ConsequenceCall, ModelCall}
+use Rattle.engine.specs.Calls.{withModel, firstModel, modelAnswer, ModelCall, consequenceAnswer, FillsIn, FoundFor, ConsequenceCall}
 use Rattle.engine.specs.Contracts.{theoryIn, FoundModel, FoundForced}
 use Rattle.engine.specs.declared.ModelAnswer.{ModelAnswer}
 use Rattle.engine.specs.declared.ModelAnswer.the-variants as ModelAnswer
 use Rattle.engine.specs.declared.ConsequenceAnswer.{ConsequenceAnswer}
 use Rattle.engine.specs.declared.ConsequenceAnswer.the-variants as ConsequenceAnswer
-use Rattle.engine.proofs.NineLaws.{nine-exactly, model-call}
+use Rattle.engine.proofs.NineLaws.{nine-exactly}
+use Rattle.engine.proofs.FirstModel.{first-has, is-first-model}
 use Rattle.engine.proofs.ProblemLaws.{theory-same, forced-same, contradicts-has, Taken, same-problem}
 
 -- what `consequence::propagate` says of the problem, in the call's answer
@@ -55,28 +57,33 @@ module _ (p : MaskedProblem) {r : Consequence} (c : Concluded (p .variables) (ye
 module _ {b : OrderBook} (w : WellFormed b) (end : ℕ) where
   -- ---- one model
 
-  -- a model of the code's arguments is a model of the book
-  found-model : (f : ℕ) → ModelOf (theoryIn (maskedFrom (maskedBook b))) (maskedFrom (maskedBook b) .facts .yes) (maskedFrom (maskedBook b) .facts .no) f
-      → models (problemOf b) f ≡ true
-  unfolding problemOf
-  found-model f m =
-      model-models (problemOf b) (proper-book w .facts-proper) f
-      (subst (λ (t : Theory). ModelOf t (given (problemOf b) .yes) (given (problemOf b) .no) f) (theory-same w) m)
+  -- the models of the code's arguments
+  abbrev Masked : ℕ → Type 0
+  Masked f =
+      Model (maskedFrom (maskedBook b) .variables) (yesIn (maskedFrom (maskedBook b))) (noIn (maskedFrom (maskedBook b)))
+      (maskedFrom (maskedBook b) .facts .yes) (maskedFrom (maskedBook b) .facts .no) f
 
-  found-has : (f : ℕ) → f < 2 ^ problemOf b .variables → models (problemOf b) f ≡ true → hasModel (problemOf b) ≡ true
-  unfolding hasModel
-  found-has f h e = witness-some _ (models (problemOf b)) f h e
+  -- they are the models of the book
+  abbrev Given : Theory → ℕ → Type 0
+  Given t f = ModelOf t (given (problemOf b) .yes) (given (problemOf b) .no) f
 
-  pub model-says : (r : ModelAnswer) → FoundModel (maskedFrom (maskedBook b)) r → ModelSays (value b end) r
+  model-there : (f : ℕ) → Masked f → ModelFilling (problemOf b) f
   unfolding problemOf
+  model-there f m = model-filling (problemOf b) (proper-book w .facts-proper) f (subst (λ (t : Theory). Given t f) (theory-same w) (to-theory _ m))
+
+  model-back : (f : ℕ) → ModelFilling (problemOf b) f → Masked f
+  unfolding problemOf
+  model-back f m =
+      of-theory _ (subst (λ (t : Theory). Given t f) (sym (theory-same w)) (filling-model (problemOf b) (proper-book w .facts-proper) f m))
+
+  pub model-says : (r : ModelAnswer) → FoundModel (maskedFrom (maskedBook b)) r → r ≡ modelAnswer (value b end)
+  unfolding modelAnswer withModel
   model-says (ModelAnswer.Model m) f =
-      let e = found-model m (to-theory _ (f .said)) in (
-        λ h. record { filling = m; below = f .said .below; model = e; answered = refl },
-        λ h. absurd (true≢false (sym (found-has m (f .said .below) e) ∙ h)),
-      )
+      let x = first-as model-there model-back (f .said) in
+      rw (first-has (problemOf b) x) (ap ModelAnswer.Model (is-first-model (problemOf b) x))
   model-says (ModelAnswer.Refused number place) f =
       let none = sym (contradicts-has w) ∙ none-contradicts _ _ _ (none-to-theory _ (f .said .2)) in
-      (λ h. absurd (true≢false (sym h ∙ not-true _ none)), λ h. ap₂ ModelAnswer.Refused (f .said .0) (f .said .1))
+      rw (not-true (hasModel (problemOf b)) none) (ap₂ ModelAnswer.Refused (f .said .0) (f .said .1))
 
   -- ---- the consequence
 
@@ -130,10 +137,21 @@ consequence-call {s} {r} e f = record {
     other : (two : LiteralSet) {at : ℕ} → ConsequenceAnswer.Forced two ≡ ConsequenceAnswer.Refused 9 at → ⊥
     other two d = let z : _≡_ {A = ℕ} 0 1 = cc in omega arith
 
+pub model-call : {s : List ℕ} {r : ModelAnswer} → r ≡ modelAnswer (readBook s) → ModelCall s r
+unfolding modelAnswer
+model-call {s} e = record {
+  said = e;
+  nine = rw e (nine-exactly (λ p. ModelAnswer.Model (firstModel p)) ModelAnswer.Refused (λ n m p q d. cc) (λ p at d. other (firstModel p) d) (Unit {0}) s);
+}
+  where
+    other : (f : ℕ) {at : ℕ} → ModelAnswer.Model f ≡ ModelAnswer.Refused 9 at → ⊥
+    other f d = let z : _≡_ {A = ℕ} 0 1 = cc in omega arith
+
 -- ---- the calls, where the book is refused and where it is accepted
 
 module _ {s : List ℕ} {r : Reading} where
   pub model-refused : {n p : ℕ} → r ≡ bookAnswer (readBook s) → r .verdict ≡ Verdict.Refused n p → ModelCall s (ModelAnswer.Refused n p)
+  unfolding modelAnswer withModel
   model-refused e f = model-call (rw (book-refused (readBook s) e f) refl)
 
   pub consequence-refused : {n p : ℕ} → r ≡ bookAnswer (readBook s) → r .verdict ≡ Verdict.Refused n p

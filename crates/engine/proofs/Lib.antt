@@ -1,4 +1,5 @@
 mod NineLaws
+pub mod FirstModel
 pub mod ProblemLaws
 mod AnswerLaws
 mod StepLaws

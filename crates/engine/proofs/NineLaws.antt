@@ -1,6 +1,6 @@
--- 9 exactly where the book has no model: one law for the calls whose answer goes by `withModel`, and the same for one model.
+-- 9 exactly where the book has no model: one law for the calls, whose answers go by `withModel`.
 -- Assumes nothing.
-use mathlib.Core.Path.{_≡_, refl, sym, _∙_}
+use mathlib.Core.Path.{_≡_, refl, ap, _∙_}
 use mathlib.Core.Bool.{Bool, true, false, cond}
 use mathlib.Core.List.{List}
 use Prim.Native.Nat.{ℕ}
@@ -11,9 +11,7 @@ use Rattle.problem.specs.Problem.{Problem, problemOf}
 use Rattle.consequence.specs.Meaning.{hasModel}
 use Rattle.consequence.specs.Demand2.{NoFilling}
 use Rattle.consequence.specs.Laws.Problems.{no-filling, some-filling}
-use Rattle.engine.specs.Calls.{withModel, NineExactly, ModelSays, ModelCall}
-use Rattle.engine.specs.declared.ModelAnswer.{ModelAnswer}
-use Rattle.engine.specs.declared.ModelAnswer.the-variants as ModelAnswer
+use Rattle.engine.specs.Calls.{withModel, NineExactly}
 
 -- a problem that has no model, for every filling, computes so
 pub none-has : (p : Problem) → NoFilling p → hasModel p ≡ false
@@ -39,21 +37,10 @@ module _ {A : Type 0} (answer : Problem → A) (refuse : ℕ → ℕ → A) (num
   pub nine-exactly : (due : Type 0) (s : List ℕ) → NineExactly refuse due (readBook s) (withModel answer refuse (readBook s))
   nine-exactly due s = nine-then due s (readBook s) refl
 
--- ---- one model
-
-model-nine : (s : List ℕ) (r : ModelAnswer) (m : Read OrderBook) → readBook s ≡ m → ModelSays m r → NineExactly ModelAnswer.Refused (Unit {0}) m r
-model-nine s r (refused number place) e c =
-    record {
-      nine-none = λ at d. let same : ModelAnswer.Refused number place ≡ ModelAnswer.Refused 9 at = sym c ∙ d in let k : number ≡ 9 = cc in
-          omega (arith, reader-numbers s e);
-      none-nine = λ u n. absurd n;
-    }
-model-nine s r (value b end) e c = record { nine-none = λ at d. go at d (hasModel (problemOf b)) refl; none-nine = λ u n. c .1 (none-has (problemOf b) n) }
+-- two answers, each with 9 where there is no model: h and k say whether there is one
+pub after-nine : {A : Type 0} (h k : Bool) → h ≡ k → (nine f g : A) → (h ≡ true → f ≡ g) → cond h f nine ≡ cond k g nine
+after-nine h k same nine f g e = go h e ∙ ap (λ (b : Bool). cond b g nine) same
   where
-    go : (at : ℕ) → r ≡ ModelAnswer.Refused 9 at → (h : Bool) → hasModel (problemOf b) ≡ h → NoFilling (problemOf b)
-    go at d true m = let x = c .0 m in let same : ModelAnswer.Model (x .filling) ≡ ModelAnswer.Refused 9 at = sym (x .answered) ∙ d in
-        let z : _≡_ {A = ℕ} 0 1 = cc in absurd (omega arith)
-    go at d false m = no-filling _ m
-
-pub model-call : {s : List ℕ} {r : ModelAnswer} → ModelSays (readBook s) r → ModelCall s r
-model-call {s} {r} c = record { said = c; nine = model-nine s r (readBook s) refl c }
+    go : (b : Bool) → (b ≡ true → f ≡ g) → cond b f nine ≡ cond b g nine
+    go true e = e refl
+    go false e = refl

@@ -1,13 +1,16 @@
 -- Books with the same screens are answered alike (E1): from the contracts of the calls, and the laws of two problems with the same fillings of the choices.
 -- Assumes nothing.
-use mathlib.Core.Path.{_≡_, refl, sym, ap, ap₂, _∙_}
-use mathlib.Core.Logic.{_⊎_, inl, inr}
+use mathlib.Core.Path.{_≡_, refl, sym, ap, ap₂, subst, _∙_}
+use mathlib.Core.Logic.{_⊎_, inl, inr, by-cases}
 use mathlib.Core.Bool.{Bool, true, false, cond}
 use mathlib.Core.List.{List}
 use Prim.Native.Nat.{ℕ, _≤_, _<_}
+use native.Mathlib.Decide.{decLt}
+use native.Mathlib.Omega.{arith}
 use lib.ListN.{length}
 use borrow.Author.Tests.{le-ltb, lt-ltb}
-use Rattle.sets.specs.Sets.{full}
+use Rattle.sets.specs.Sets.{bit, full, inter}
+use Rattle.sets.specs.Laws.Bits.{bit-le, bit-full, bit-full-high, bit-inter, ext}
 use Rattle.literals.specs.declared.LiteralSet.{LiteralSet}
 use Rattle.records.specs.Limits.{maxLog}
 use Rattle.records.specs.Format.{value, OrderBook, readBook}
@@ -17,17 +20,20 @@ use Rattle.problem.specs.Problem.{Problem, problemOf, given}
 use Rattle.problem.specs.Proper.{ProperProblem}
 use Rattle.problem.proofs.BookLaws.{proper-book}
 use Rattle.sat.specs.Laws.Rules.{rules-each, each-rules}
-use Rattle.consequence.specs.Meaning.{hasModel, consequenceOf, theoryOf}
+use Rattle.first_model.specs.Meaning.{weight, First}
+use Rattle.first_model.specs.Laws.Order.{agree-weight, weight-agree, first-weight}
+use Rattle.consequence.specs.Meaning.{hasModel, consequenceOf, theoryOf, ModelOf}
 use Rattle.consequence.specs.SameFillings.{Restriction, SameOverChoices}
-use Rattle.consequence.specs.Laws.Problems.{no-filling}
-use Rattle.consequence.specs.Laws.SameFillings.{given-same, same-has-model, same-consequence}
+use Rattle.consequence.specs.Algorithm2.{ModelFilling}
+use Rattle.consequence.specs.Laws.Problems.{model-filling, filling-model, no-filling}
+use Rattle.consequence.specs.Laws.SameFillings.{agreeing-model, theories-same, given-same, same-has-model, same-consequence}
 use Rattle.step.specs.Meaning.{questionOf, Step, stepOf}
 use Rattle.log_form.specs.Format.{Log, logBytes}
 use Rattle.log.specs.Meaning.{runFor, logOf}
 use Rattle.log.specs.Laws.SameFillings.{same-next, same-run}
-use Rattle.engine.specs.Calls.{withModel, ModelSays, consequenceAnswer, ConsequenceCall, between, stepSays, stepFor, stepAnswer}
+use Rattle.engine.specs.Calls.{withModel, firstModel, modelAnswer, ModelCall, consequenceAnswer, ConsequenceCall, between, stepSays, stepFor, stepAnswer}
 use Rattle.engine.specs.Calls.{StepCall, LogOutcome, logged, refusedWith, logOutcome, logAnswer, bufferAfter, LoggedAs, LogCall}
-use Rattle.engine.specs.SameScreens.{SameScreens, Reordered, Retyped, BothNine, EqualLogs, SameLogs, GivesModel, SameModels, SameAnswers}
+use Rattle.engine.specs.SameScreens.{SameScreens, Reordered, Retyped, BothNine, EqualLogs, SameLogs, choicesIn, SameChosen, SameModels, SameAnswers}
 use Rattle.engine.specs.declared.ModelAnswer.{ModelAnswer}
 use Rattle.engine.specs.declared.ModelAnswer.the-variants as ModelAnswer
 use Rattle.engine.specs.declared.ConsequenceAnswer.{ConsequenceAnswer}
@@ -36,7 +42,8 @@ use Rattle.engine.specs.declared.StepAnswer.{StepAnswer}
 use Rattle.engine.specs.declared.StepAnswer.the-variants as StepAnswer
 use Rattle.engine.specs.declared.LogAnswer.{LogAnswer}
 use Rattle.engine.specs.declared.LogAnswer.the-variants as LogAnswer
-use Rattle.engine.proofs.NineLaws.{none-has}
+use Rattle.engine.proofs.NineLaws.{none-has, after-nine}
+use Rattle.engine.proofs.FirstModel.{first-model}
 use Rattle.engine.proofs.StepLaws.{sound-between}
 
 -- ---- two problems
@@ -50,14 +57,6 @@ problems-same x =
 module _ {p q : Problem} (w : ProperProblem p) (z : ProperProblem q) (x : SameOverChoices p q) where
   has-same : hasModel p ≡ hasModel q
   has-same = same-has-model w z x
-
-  -- two answers, each with 9 where there is no model
-  after-nine : {A : Type 0} (nine f g : A) → (hasModel p ≡ true → f ≡ g) → cond (hasModel p) f nine ≡ cond (hasModel q) g nine
-  after-nine nine f g h = go (hasModel p) h ∙ ap (λ (b : Bool). cond b g nine) has-same
-    where
-      go : (b : Bool) → (b ≡ true → f ≡ g) → cond b f nine ≡ cond b g nine
-      go true h = h refl
-      go false h = refl
 
   -- the step from a known set, or 10
   step-same : (known : LiteralSet) → hasModel p ≡ true → stepFor known p ≡ stepFor known q
@@ -74,6 +73,29 @@ module _ {p q : Problem} (w : ProperProblem p) (z : ProperProblem q) (x : SameOv
           ≡ cond b (stepSays (stepOf (questionOf q known))) (StepAnswer.Refused 10 0)
       go true e = ap stepSays (same-next w z x known (sound-between w some known e) (sound-between z (sym has-same ∙ some) known (sym lies-same ∙ e)))
       go false e = refl
+
+-- ---- two first models
+
+over-choices-back : {p q : Problem} → SameOverChoices p q → SameOverChoices q p
+over-choices-back x =
+    record {
+      same-choices = sym (x .same-choices);
+      same-costs = sym (x .same-costs);
+      same-facts = sym (x .same-facts);
+      same-fillings = record { there = x .same-fillings .back; back = x .same-fillings .there };
+    }
+
+-- over the choices, which are the first variables, a model of the one is a model of the other, so that no first model weighs less than the other
+chosen-weight : {p q : Problem} (w : ProperProblem p) (z : ProperProblem q) (x : SameOverChoices p q) (k : ℕ) → p .choices ≡ full k → {f g : ℕ}
+    → First (ModelFilling p) f → ModelFilling q g → weight k f ≤ weight k g
+unfolding theoryOf
+chosen-weight {p} {q} w z x k e {f} {g} a m =
+    let y = over-choices-back x in
+    let h = agreeing-model (theories-same z w y) (z .yes-facts) (z .no-facts) g (filling-model q (z .facts-proper) g m) in
+    let n = model-filling p (w .facts-proper) (h .filling) (subst (λ (l : LiteralSet). ModelOf (theoryOf p) (l .yes) (l .no) (h .filling)) (given-same z w y) (h .model)) in
+    let same : (v : ℕ) → v < k → bit (h .filling) v ≡ bit g v =
+            λ v l. omega (arith, h .alike v, ap (λ (c : ℕ). bit c v) e, bit-full k v l, bit-le g v, bit-le (h .filling) v) in
+    omega (arith, first-weight a k (h .filling) n, agree-weight k (h .filling) g same)
 
 -- ---- one log
 
@@ -135,7 +157,7 @@ module _ {s t : List ℕ} (x : Retyped s t) where
       → (hasModel (problemOf (x .book)) ≡ true → answer (problemOf (x .book)) ≡ answer (problemOf (x .other)))
       → withModel answer refuse (readBook s) ≡ withModel answer refuse (readBook t)
   unfolding withModel
-  answers-same answer refuse h = rw (x .accepted, x .other-accepted, withModel) (after-nine w z alike _ _ _ h)
+  answers-same answer refuse h = rw (x .accepted, x .other-accepted, withModel) (after-nine _ _ (has-same w z alike) _ _ _ h)
 
   consequence-same : {r o : ConsequenceAnswer} → ConsequenceCall s r → ConsequenceCall t o → r ≡ o
   unfolding consequenceAnswer
@@ -155,7 +177,7 @@ module _ {s t : List ℕ} (x : Retyped s t) where
   -- with rooms that are long enough both calls come to the same
   outcome-same : log-or-nine (problemOf (x .book)) ≡ log-or-nine (problemOf (x .other))
   unfolding log-or-nine
-  outcome-same = after-nine w z alike _ _ _ (λ some. ap (λ (ss : List Step). logged (logOf ss)) (same-run w z alike some))
+  outcome-same = after-nine _ _ (has-same w z alike) _ _ _ (λ some. ap (λ (ss : List Step). logged (logOf ss)) (same-run w z alike some))
 
   pub outcomes-same : (room other : ℕ) → maxLog ≤ room → maxLog ≤ other → logOutcome room (readBook s) ≡ logOutcome other (readBook t)
   outcomes-same room other l k = long-enough s (x .accepted) room l ∙ outcome-same ∙ sym (long-enough t (x .other-accepted) other k)
@@ -170,21 +192,43 @@ module _ {s t : List ℕ} (x : Retyped s t) where
 
   -- ---- one model
 
-  both-models : {r o : ModelAnswer} → ModelSays (value (x .book) (x .end)) r → ModelSays (value (x .other) (x .other-end)) o
-      → (GivesModel r × GivesModel o) ⊎ BothNine ModelAnswer.Refused r o
-  both-models {r} {o} c d = go (hasModel (problemOf (x .book))) refl
+  -- the first models are the same over the choices
+  chosen-same : {f g : ℕ} → First (ModelFilling (problemOf (x .book))) f → First (ModelFilling (problemOf (x .other))) g
+      → inter f (full (x .book .header .choices)) ≡ inter g (full (x .book .header .choices))
+  unfolding problemOf
+  chosen-same {f} {g} a c =
+      let k = x .book .header .choices in
+      let same = weight-agree k f g (omega (arith, chosen-weight w z alike k refl a (c .among),
+              chosen-weight z w (over-choices-back alike) k (ap full (sym (x .same .same-choices))) c (a .among))) in
+      ext (inter f (full k)) (inter g (full k)) (λ v. by-cases (decLt v k)
+      (λ l. omega (arith, bit-inter f (full k) v, bit-inter g (full k) v, same v l))
+      (λ l. omega (arith, bit-inter f (full k) v, bit-inter g (full k) v, bit-full-high k v (omega arith))))
+
+  both-models : {r o : ModelAnswer} → ModelCall s r → ModelCall t o → SameChosen (choicesIn (readBook s)) r o ⊎ BothNine ModelAnswer.Refused r o
+  unfolding modelAnswer withModel
+  both-models {r} {o} c d =
+      rw (x .accepted) (go (hasModel (problemOf (x .book))) refl (rw (x .accepted, withModel) at (c .said))
+      (rw (x .other-accepted, withModel, ← (has-same w z alike)) at (d .said)))
     where
-      go : (h : Bool) → hasModel (problemOf (x .book)) ≡ h → (GivesModel r × GivesModel o) ⊎ BothNine ModelAnswer.Refused r o
-      go true e =
-          let m = c .0 e in let n = d .0 (sym (has-same w z alike) ∙ e) in
-          inl ((m .filling, m .answered), (n .filling, n .answered))
-      go false e = inr (c .1 e, d .1 (sym (has-same w z alike) ∙ e))
+      go : (h : Bool) → hasModel (problemOf (x .book)) ≡ h
+          → r ≡ cond h (ModelAnswer.Model (firstModel (problemOf (x .book)))) (ModelAnswer.Refused 9 0)
+          → o ≡ cond h (ModelAnswer.Model (firstModel (problemOf (x .other)))) (ModelAnswer.Refused 9 0)
+          → SameChosen (full (x .book .header .choices)) r o ⊎ BothNine ModelAnswer.Refused r o
+      go true e a b =
+          inl (record {
+            filling = firstModel (problemOf (x .book));
+            answered = a;
+            other-filling = firstModel (problemOf (x .other));
+            other-answered = b;
+            same-chosen = chosen-same (first-model _ e) (first-model _ (sym (has-same w z alike) ∙ e));
+          })
+      go false e a b = inr (a, b)
 
   models-same : SameModels s t
   models-same = record {
     none-there = λ n. rw (x .other-accepted) (no-filling _ (sym (has-same w z alike) ∙ none-has _ (rw (x .accepted) at n)));
     none-back = λ n. rw (x .accepted) (no-filling _ (has-same w z alike ∙ none-has _ (rw (x .other-accepted) at n)));
-    both = λ c d. both-models (rw (x .accepted) at (c .said)) (rw (x .other-accepted) at (d .said));
+    both = both-models;
   }
 
   -- ---- all calls

@@ -11,6 +11,7 @@ use Rattle.literals.specs.declared.LiteralSet.{LiteralSet}
 use Rattle.records.specs.Limits.{maxLog}
 use Rattle.records.specs.Format.{Read, value, refused, OrderBook, readBook}
 use Rattle.problem.specs.Problem.{Problem, problemOf, given}
+use Rattle.first_model.specs.Meaning.{firstFilling}
 use Rattle.consequence.specs.Meaning.{models, hasModel, consequenceOf}
 use Rattle.consequence.specs.Demand2.{Demand2, NoFilling}
 use Rattle.consequence.specs.Algorithm2.{ModelFilling, Narrowed}
@@ -42,28 +43,24 @@ NoModelIn (refused number place) = ⊥
 NoModelIn (value b end) = NoFilling (problemOf b)
 
 -- 9 is answered exactly for a proper book without a model, wherever nothing that is checked before 9 refuses. One law shows it for each call that gives
--- it by `withModel`, and one the same for a model (proofs/NineLaws).
+-- it by `withModel` (proofs/NineLaws).
 pub record NineExactly {A : Type 0} (refuse : ℕ → ℕ → A) (due : Type 0) (m : Read OrderBook) (r : A) : Type 0 where
   pub nine-none : (place : ℕ) → r ≡ refuse 9 place → NoModelIn m
   pub none-nine : due → NoModelIn m → r ≡ refuse 9 0
 
 -- ---- one model
 
--- A model of the book: which one is free.
-pub record IsModelOf (p : Problem) (r : ModelAnswer) : Type 0 where
-  pub filling : ℕ
-  pub below : filling < 2 ^ p .variables
-  pub model : models p filling ≡ true
-  pub answered : r ≡ ModelAnswer.Model filling
+-- The model is the first in the order with variable 1 weightiest and no before yes (E5).
+unfoldable pub firstModel : Problem → ℕ
+firstModel p = firstFilling (p .variables) (models p)
 
--- The answer on one model: a refusal of the reader, 9 at 0 exactly where the book has no model, or a model of the book.
-abbrev pub ModelSays : Read OrderBook → ModelAnswer → Type 0
-ModelSays (refused number place) r = r ≡ ModelAnswer.Refused number place
-ModelSays (value b end) r = (hasModel (problemOf b) ≡ true → IsModelOf (problemOf b) r) × (hasModel (problemOf b) ≡ false → r ≡ ModelAnswer.Refused 9 0)
+unfoldable pub modelAnswer : Read OrderBook → ModelAnswer
+unfolding withModel
+modelAnswer m = withModel (λ p. ModelAnswer.Model (firstModel p)) ModelAnswer.Refused m
 
--- The contract of `model`.
+-- The contract of `model`. That it is a model, and before every other, is shown of `firstModel` (FirstModel).
 pub record ModelCall (s : List ℕ) (r : ModelAnswer) : Type 0 where
-  pub said : ModelSays (readBook s) r
+  pub said : r ≡ modelAnswer (readBook s)
   pub nine : NineExactly ModelAnswer.Refused (Unit {0}) (readBook s) r
 
 -- ---- the consequence

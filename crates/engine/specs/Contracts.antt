@@ -7,6 +7,7 @@ use Rattle.sets.specs.Sets.{Within}
 use Rattle.literals.specs.declared.LiteralSet.{LiteralSet}
 use Rattle.records.specs.Limits.{maxVariables, maxChoices, maxCost}
 use Rattle.sat.specs.Meaning.{Model, NoModel}
+use Rattle.first_model.specs.Meaning.{First}
 use Rattle.problem.specs.Problem.{costOf}
 use Rattle.problem.specs.Masked.{yesIn, noIn, Searchable}
 use Rattle.problem.specs.declared.MaskedProblem.{MaskedProblem}
@@ -34,10 +35,10 @@ theoryIn p = maskTheory (p .variables) (yesIn p) (noIn p) (p .choices)
 abbrev pub forcedIn : MaskedProblem → LiteralSet
 forcedIn p = record { yes = yesForced (theoryIn p) (p .facts .yes) (p .facts .no); no = noForced (theoryIn p) (p .facts .yes) (p .facts .no) }
 
--- ---- one model, and the consequence
+-- ---- the first model, and the consequence
 
 abbrev pub ModelSaid : MaskedProblem → ModelAnswer → Type 0
-ModelSaid p (ModelAnswer.Model m) = Model (p .variables) (yesIn p) (noIn p) (p .facts .yes) (p .facts .no) m
+ModelSaid p (ModelAnswer.Model m) = First (Model (p .variables) (yesIn p) (noIn p) (p .facts .yes) (p .facts .no)) m
 ModelSaid p (ModelAnswer.Refused number place) = (number ≡ 9) × (place ≡ 0) × NoModel (p .variables) (yesIn p) (noIn p) (p .facts .yes) (p .facts .no)
 
 pub record FoundModel (p : MaskedProblem) (r : ModelAnswer) : Type 0 where

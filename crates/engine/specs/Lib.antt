@@ -2,5 +2,6 @@ pub mod Calls
 pub mod Contracts
 pub mod Orders
 pub mod Dimacs
+pub mod FirstModel
 pub mod SameScreens
 pub mod RetypedOrder

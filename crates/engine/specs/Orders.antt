@@ -13,9 +13,10 @@ use Rattle.records.specs.Format.{marked, pair, isCost, opened, rising, headerVa
 use Rattle.records.specs.Format.{factAt, atFact, endAt, many, factsFrom, fromRules, Read, OrderBook, readBook}
 use Rattle.book.specs.Answer.{table, padded}
 use Rattle.book.specs.Orders.{order-a, order-b, order-c, order-d, order-e, order-f, order-g, order-h, order-i, order-j}
-use Rattle.book.specs.Orders.{order-empty-rule, order-nine-literals}
+use Rattle.book.specs.Orders.{order-empty-rule, order-nine-literals, order-either}
 use Rattle.sat.specs.Meaning.{everyUnder, everyFilling, someFilling, obeysRules, isModel}
-use Rattle.problem.specs.Problem.{problemOf, costOf}
+use Rattle.first_model.specs.Meaning.{weight, comesBefore, firstUnder, firstFilling}
+use Rattle.problem.specs.Problem.{Problem, problemOf, costOf}
 use Rattle.consequence.specs.Meaning.{models, hasModel, follows, collect, yesConsequence, noConsequence, theoryOf, obeying, contradicts, forcesYes}
 use Rattle.consequence.specs.Meaning.{forcesNo, yesForced, noForced}
 use Rattle.items.specs.Weights.{sumBelow}
@@ -24,7 +25,9 @@ use Rattle.step.specs.Meaning.{isCandidate, candidateCost, before, earlier, fir
 use Rattle.step.specs.Meaning.{theStep, Answer, newOn, newOff, stepFrom, stepOf}
 use Rattle.log_form.specs.Format.{listBytes, twoBytes, fourBytes, recordBytes, recordsBytes, okBytes, logBytes}
 use Rattle.log.specs.Meaning.{costsWritten, withNew, runFrom, runOf, runFor}
-use Rattle.engine.specs.Calls.{withModel, consequenceAnswer, between, stepSays, stepFor, stepAnswer, logOutcome, logAnswer, bufferAfter}
+use Rattle.engine.specs.Calls.{withModel, firstModel, modelAnswer, consequenceAnswer, between, stepSays, stepFor, stepAnswer, logOutcome, logAnswer, bufferAfter}
+use Rattle.engine.specs.declared.ModelAnswer.{ModelAnswer}
+use Rattle.engine.specs.declared.ModelAnswer.the-variants as Model
 use Rattle.engine.specs.declared.ConsequenceAnswer.{ConsequenceAnswer}
 use Rattle.engine.specs.declared.ConsequenceAnswer.the-variants as Consequence
 use Rattle.engine.specs.declared.StepAnswer.{StepAnswer}
@@ -48,34 +51,42 @@ unfolding problemOf theoryOf table padded yesConsequence noConsequence follows h
     ruleAt ruleValues costAt costValues headerAt headerValues rising opened isCost pair marked variable ofByte yesMask yesBit noMask noBit
 readAndPosed s = readBook s
 
+unfoldable pub firstComputed : Problem → ℕ
+unfolding modelAnswer firstModel firstFilling firstUnder comesBefore weight
+firstComputed p = firstModel p
+
 -- ---- the orders
 
--- An order's bytes, its consequence or refusal, the answer of the log's call and the log's bytes, none where it refuses.
+-- An order's bytes, its first model, its consequence, the answer of the log's call and the log's bytes; or its refusal, and then no log.
 pub record OrderRow : Type 0 where
   pub bytes : List ℕ
+  pub model : ModelAnswer
   pub consequence : ConsequenceAnswer
   pub answer : LogAnswer
   pub log : List ℕ
 
 abbrev refuses : List ℕ → ℕ → ℕ → OrderRow
-refuses s number place = record { bytes = s; consequence = Consequence.Refused number place; answer = Log.Refused number place; log = [] }
+refuses s number place =
+    record { bytes = s; model = Model.Refused number place; consequence = Consequence.Refused number place; answer = Log.Refused number place; log = [] }
 
-abbrev logs : List ℕ → LiteralSet → ℕ → ℕ → ℕ → List ℕ → OrderRow
-logs s c size steps total bytes = record { bytes = s; consequence = Consequence.Forced c; answer = Log.Written size steps total; log = bytes }
+abbrev logs : List ℕ → ℕ → LiteralSet → ℕ → ℕ → ℕ → List ℕ → OrderRow
+logs s m c size steps total bytes =
+    record { bytes = s; model = Model.Model m; consequence = Consequence.Forced c; answer = Log.Written size steps total; log = bytes }
 
--- In c the consequence is 1 2 3 4, in d 1, in g -1, in h 1, in i 1 2 3.
+-- In c the first model says yes of 1 2 3 4 5 and the consequence is 1 2 3 4, in d of 1, which follows, in g of none, where -1 follows, in h of 1, in i of
+-- 1 2 3, which follow.
 unfoldable pub orders : List OrderRow
 orders =
     refuses order-a 1 0
-    ∷ logs order-b (set 0 0) 7 0 0 (0x4F ∷ 0x4B ∷ 0 ∷ 0 ∷ 0 ∷ 0 ∷ 0 ∷ [])
-    ∷ logs order-c (set 15 0) 26 2 20
+    ∷ logs order-b 0 (set 0 0) 7 0 0 (0x4F ∷ 0x4B ∷ 0 ∷ 0 ∷ 0 ∷ 0 ∷ 0 ∷ [])
+    ∷ logs order-c 31 (set 15 0) 26 2 20
     (0x53 ∷ 0x54 ∷ 2 ∷ 1 ∷ 1 ∷ 1 ∷ 2 ∷ 0 ∷ 8 ∷ 0x53 ∷ 0x54 ∷ 4 ∷ 2 ∷ 2 ∷ 3 ∷ 1 ∷ 4 ∷ 0 ∷ 12 ∷ 0x4F ∷ 0x4B ∷ 2 ∷ 0 ∷ 0 ∷ 0 ∷ 20 ∷ [])
-    ∷ logs order-d (set 1 0) 15 1 9 (0x53 ∷ 0x54 ∷ 1 ∷ 0 ∷ 1 ∷ 1 ∷ 0 ∷ 9 ∷ 0x4F ∷ 0x4B ∷ 1 ∷ 0 ∷ 0 ∷ 0 ∷ 9 ∷ [])
+    ∷ logs order-d 1 (set 1 0) 15 1 9 (0x53 ∷ 0x54 ∷ 1 ∷ 0 ∷ 1 ∷ 1 ∷ 0 ∷ 9 ∷ 0x4F ∷ 0x4B ∷ 1 ∷ 0 ∷ 0 ∷ 0 ∷ 9 ∷ [])
     ∷ refuses order-e 9 0
     ∷ refuses order-f 9 0
-    ∷ logs order-g (set 0 1) 15 1 5 (0x53 ∷ 0x54 ∷ 0xFF ∷ 0 ∷ 1 ∷ 0xFF ∷ 0 ∷ 5 ∷ 0x4F ∷ 0x4B ∷ 1 ∷ 0 ∷ 0 ∷ 0 ∷ 5 ∷ [])
-    ∷ logs order-h (set 1 0) 7 0 0 (0x4F ∷ 0x4B ∷ 0 ∷ 0 ∷ 0 ∷ 0 ∷ 0 ∷ [])
-    ∷ logs order-i (set 7 0) 17 1 2 (0x53 ∷ 0x54 ∷ 2 ∷ 1 ∷ 1 ∷ 2 ∷ 2 ∷ 3 ∷ 0 ∷ 2 ∷ 0x4F ∷ 0x4B ∷ 1 ∷ 0 ∷ 0 ∷ 0 ∷ 2 ∷ [])
+    ∷ logs order-g 0 (set 0 1) 15 1 5 (0x53 ∷ 0x54 ∷ 0xFF ∷ 0 ∷ 1 ∷ 0xFF ∷ 0 ∷ 5 ∷ 0x4F ∷ 0x4B ∷ 1 ∷ 0 ∷ 0 ∷ 0 ∷ 5 ∷ [])
+    ∷ logs order-h 1 (set 1 0) 7 0 0 (0x4F ∷ 0x4B ∷ 0 ∷ 0 ∷ 0 ∷ 0 ∷ 0 ∷ [])
+    ∷ logs order-i 7 (set 7 0) 17 1 2 (0x53 ∷ 0x54 ∷ 2 ∷ 1 ∷ 1 ∷ 2 ∷ 2 ∷ 3 ∷ 0 ∷ 2 ∷ 0x4F ∷ 0x4B ∷ 1 ∷ 0 ∷ 0 ∷ 0 ∷ 2 ∷ [])
     ∷ refuses order-j 6 12
     ∷ []
 
@@ -83,25 +94,35 @@ orders =
 unfoldable pub countOrders : List OrderRow
 countOrders = refuses order-empty-rule 9 0 ∷ refuses order-nine-literals 5 16 ∷ []
 
+-- A rule (1, 2) and nothing that follows: the first model says no of 1 and yes of 2 (document 02, E5).
+unfoldable pub eitherOrders : List OrderRow
+eitherOrders = logs order-either 2 (set 0 0) 7 0 0 (0x4F ∷ 0x4B ∷ 0 ∷ 0 ∷ 0 ∷ 0 ∷ 0 ∷ []) ∷ []
+
 -- What the meanings say of an order's bytes, with the shortest buffer that serves.
 unfoldable pub meant : List ℕ → OrderRow
 meant s =
     record {
       bytes = s;
+      model = modelAnswer (readBook s);
       consequence = consequenceAnswer (readBook s);
       answer = logAnswer (logOutcome maxLog (readBook s));
       log = bufferAfter (logOutcome maxLog (readBook s)) [];
     }
 
 pub orders-agree : map (λ (r : OrderRow). meant (r .bytes)) orders ≡ orders
-unfolding orders meant computed readAndPosed order-a order-b order-c order-d order-e order-f order-g order-h order-i order-j consequenceAnswer
+unfolding orders meant computed readAndPosed firstComputed order-a order-b order-c order-d order-e order-f order-g order-h order-i order-j consequenceAnswer
     withModel logOutcome logAnswer bufferAfter runFor runOf runFrom withNew logBytes costsWritten okBytes recordsBytes recordBytes listBytes
     literalsOf twoBytes fourBytes byteOf members membersBelow membersFrom ones
 orders-agree = refl
 
 pub count-orders-agree : map (λ (r : OrderRow). meant (r .bytes)) countOrders ≡ countOrders
-unfolding countOrders meant readAndPosed order-empty-rule order-nine-literals consequenceAnswer withModel logOutcome logAnswer bufferAfter
+unfolding countOrders meant readAndPosed firstComputed order-empty-rule order-nine-literals consequenceAnswer withModel logOutcome logAnswer bufferAfter
 count-orders-agree = refl
+
+pub either-orders-agree : map (λ (r : OrderRow). meant (r .bytes)) eitherOrders ≡ eitherOrders
+unfolding eitherOrders meant computed readAndPosed firstComputed order-either consequenceAnswer withModel logOutcome logAnswer bufferAfter runFor runOf
+    runFrom logBytes costsWritten okBytes recordsBytes fourBytes ones
+either-orders-agree = refl
 
 -- ---- single steps
 

@@ -5,9 +5,10 @@ use mathlib.Core.Logic.{_⊎_}
 use mathlib.Core.List.{List, _++_, List·Memᴰ}
 use Prim.Native.Nat.{ℕ, _≤_, _<_}
 use lib.ListN.{length, drop}
+use Rattle.sets.specs.Sets.{full, inter}
 use Rattle.literals.specs.Literal.{Literal}
 use Rattle.records.specs.Limits.{maxLog}
-use Rattle.records.specs.Format.{value, OrderBook, readBook}
+use Rattle.records.specs.Format.{Read, value, refused, OrderBook, readBook}
 use Rattle.problem.specs.Problem.{problemOf}
 use Rattle.consequence.specs.Meaning.{theoryOf}
 use Rattle.consequence.specs.SameFillings.{SameFillings}
@@ -37,15 +38,19 @@ pub record Reordered (b c : OrderBook) : Type 0 where
   pub rules-there : (r : List Literal) → List·Memᴰ r (b .rules) → List·Memᴰ r (c .rules)
   pub rules-back : (r : List Literal) → List·Memᴰ r (c .rules) → List·Memᴰ r (b .rules)
 
--- The bytes s and t read as two such books.
-pub record Retyped (s t : List ℕ) : Type 0 where
+-- The bytes s and t read as two books that are related.
+pub record BothRead (related : OrderBook → OrderBook → Type 0) (s t : List ℕ) : Type 0 where
   pub book : OrderBook
   pub end : ℕ
   pub accepted : readBook s ≡ value book end
   pub other : OrderBook
   pub other-end : ℕ
   pub other-accepted : readBook t ≡ value other other-end
-  pub same : SameScreens book other
+  pub same : related book other
+
+-- They read as two books with the same screens.
+abbrev pub Retyped : List ℕ → List ℕ → Type 0
+Retyped s t = BothRead SameScreens s t
 
 -- ---- what is claimed
 
@@ -74,15 +79,24 @@ pub record SameLogs (s t : List ℕ) : Type 0 where
   pub nine : {before after other-before other-after : List ℕ} {r o : LogAnswer} → LogCall s before after r → LogCall t other-before other-after o
       → maxLog ≤ length before → maxLog ≤ length other-before → NoModelIn (readBook s) → NoModelIn (readBook t) → BothNine LogAnswer.Refused r o
 
--- A model is answered.
-abbrev pub GivesModel : ModelAnswer → Type 0
-GivesModel r = (f : ℕ) × (r ≡ ModelAnswer.Model f)
+-- The choices of the book that bytes read as.
+abbrev pub choicesIn : Read OrderBook → ℕ
+choicesIn (refused number place) = 0
+choicesIn (value b end) = full (b .header .choices)
 
--- One has a model exactly where the other has. Which model is answered is free: both calls answer one, or both refuse with 9.
+-- Both calls answer a model, and the two are the same over the choices.
+pub record SameChosen (choices : ℕ) (r o : ModelAnswer) : Type 0 where
+  pub filling : ℕ
+  pub answered : r ≡ ModelAnswer.Model filling
+  pub other-filling : ℕ
+  pub other-answered : o ≡ ModelAnswer.Model other-filling
+  pub same-chosen : inter filling choices ≡ inter other-filling choices
+
+-- One has a model exactly where the other has, and since the choices are the weightiest variables the first models choose the same. Their helpers may differ.
 pub record SameModels (s t : List ℕ) : Type 0 where
   pub none-there : NoModelIn (readBook s) → NoModelIn (readBook t)
   pub none-back : NoModelIn (readBook t) → NoModelIn (readBook s)
-  pub both : {r o : ModelAnswer} → ModelCall s r → ModelCall t o → (GivesModel r × GivesModel o) ⊎ BothNine ModelAnswer.Refused r o
+  pub both : {r o : ModelAnswer} → ModelCall s r → ModelCall t o → SameChosen (choicesIn (readBook s)) r o ⊎ BothNine ModelAnswer.Refused r o
 
 -- The same screens: the same is filled in, the next step from the same known set is the same, refusals included, and the logs have equal bytes.
 -- Ruled out: helpers counted among the choices; the first contradiction that is found taken for the cheapest.

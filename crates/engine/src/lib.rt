@@ -20,7 +20,7 @@ use dimacs::Imported;
 use literals::LiteralSet;
 use problem::MaskedProblem;
 
-// A model of the book, or the refusal.
+// The first model of the book, or the refusal.
 pub enum ModelAnswer {
     Model(u64),
     Refused { number: u8, place: usize },
@@ -77,7 +77,8 @@ pub fn read_dimacs(text: &[u8], buffer: &mut [u8]) -> Imported
     dimacs::import(text, buffer)
 }
 
-// One model of the book. Ruled out: refusal 9 for every book; a filling that obeys the rules and denies a given fact.
+// The first model of the book: variable 1 is weightiest, and no comes before yes.
+// Ruled out: refusal 9 for every book; any model that the search finds first.
 pub fn model(s: &[u8]) -> ModelAnswer
     ensures { λ r. ⌜ ModelCall (now (s .entry)) r ⌝ }
 {
@@ -92,7 +93,7 @@ pub fn model(s: &[u8]) -> ModelAnswer
     }
 }
 
-// A model of the problem, or refusal 9.
+// The first model of the problem, or refusal 9.
 fn search_model(p: MaskedProblem) -> ModelAnswer
     requires { ⌜ Searchable p ⌝ }
     ensures { λ r. ⌜ FoundModel p r ⌝ }
@@ -101,7 +102,7 @@ fn search_model(p: MaskedProblem) -> ModelAnswer
     let no = p.no;
     let rules = p.rules;
     let given = propagation::of_literals(p.facts);
-    match sat::search(p.variables, &yes[..rules], &no[..rules], given, 0) {
+    match first_model::search(p.variables, &yes[..rules], &no[..rules], given) {
         sat::SearchResult::Found(m) => ModelAnswer::Model(m),
         sat::SearchResult::Nothing => ModelAnswer::Refused {
             number: 9,

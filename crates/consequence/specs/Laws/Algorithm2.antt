@@ -22,8 +22,8 @@ use Rattle.propagation.specs.Contracts.{digit}
 use Rattle.problem.specs.Problem.{Problem, given}
 use Rattle.consequence.specs.Meaning.{collect, Theory, theoryOf, yesForced, noForced, ModelOf}
 use Rattle.consequence.specs.Algorithm2.{inEvery, commonYes, commonNo, keptAfter, size, Denies, FoundInTurn, Narrowed, ModelFilling}
-use Rattle.consequence.specs.Laws.Forcing.{collect-lt, collect-in, collect-true, Exactly, exactly-unique, yes-exactly, no-exactly, obeying-model}
-use Rattle.consequence.specs.Laws.Problems.{models-obeying, model-models}
+use Rattle.consequence.specs.Laws.Forcing.{collect-lt, collect-in, collect-true, Exactly, exactly-unique, yes-exactly, no-exactly}
+use Rattle.consequence.specs.Laws.Problems.{model-filling, filling-model}
 use Rattle.consequence.specs.Laws.Common.{kept-common, takes-one-out}
 
 -- ---- the models found
@@ -153,7 +153,4 @@ module _ (t : Theory) (on off : ℕ) {number : ℕ} {answer : LiteralSet} (w : N
 pub narrowed-problem : (p : Problem) → Proper (p .facts) → {number : ℕ} {answer : LiteralSet}
     → Narrowed (p .variables) (p .choices) (ModelOf (theoryOf p) (given p .yes) (given p .no)) number answer
     → Narrowed (p .variables) (p .choices) (ModelFilling p) number answer
-unfolding theoryOf
-narrowed-problem p proper w =
-    narrowed-as (p .variables) (p .choices) _ (ModelFilling p) (λ f m. record { below = m .below; is-model = model-models p proper f m })
-    (λ f m. obeying-model (theoryOf p) (given p .yes) (given p .no) f (m .below) (sym (models-obeying p proper f) ∙ m .is-model)) w
+narrowed-problem p proper w = narrowed-as (p .variables) (p .choices) _ (ModelFilling p) (model-filling p proper) (filling-model p proper) w

@@ -15,7 +15,8 @@ use Rattle.problem.specs.Problem.{Problem, given}
 use Rattle.consequence.specs.Meaning.{models, hasModel, follows, collect, yesConsequence, noConsequence, consequenceOf}
 use Rattle.consequence.specs.Meaning.{theoryOf, obeying, contradicts, forcesYes, forcesNo, yesForced, noForced, ModelOf}
 use Rattle.consequence.specs.Demand2.{FilledIn, OverChoice, Always, Demand2, NoFilling}
-use Rattle.consequence.specs.Laws.Forcing.{implied, implies, collect-in, collect-true, model-obeying}
+use Rattle.consequence.specs.Algorithm2.{ModelFilling}
+use Rattle.consequence.specs.Laws.Forcing.{implied, implies, collect-in, collect-true, obeying-model, model-obeying}
 
 -- ---- the given facts as a set
 
@@ -45,9 +46,14 @@ module _ (p : Problem) (proper : Proper (p .facts)) where
   unfolding noConsequence follows holds noForced forcesNo theoryOf
   no-consequence = same-test (λ f v. not (has f v))
 
-  -- a model of the set is a model
-  pub model-models : (f : ℕ) → ModelOf (theoryOf p) (given p .yes) (given p .no) f → models p f ≡ true
-  model-models f m = models-obeying f ∙ model-obeying (theoryOf p) _ _ f m
+  -- a model of the set is a model, and the other way round
+  pub model-filling : (f : ℕ) → ModelOf (theoryOf p) (given p .yes) (given p .no) f → ModelFilling p f
+  unfolding theoryOf
+  model-filling f m = record { below = m .below; is-model = models-obeying f ∙ model-obeying (theoryOf p) _ _ f m }
+
+  pub filling-model : (f : ℕ) → ModelFilling p f → ModelOf (theoryOf p) (given p .yes) (given p .no) f
+  unfolding theoryOf
+  filling-model f m = obeying-model (theoryOf p) (given p .yes) (given p .no) f (m .below) (sym (models-obeying f) ∙ m .is-model)
 
 -- ---- for every filling
 

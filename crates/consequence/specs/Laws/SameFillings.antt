@@ -38,14 +38,14 @@ choice-there s v e = sym (ap (λ (n : ℕ). bit n v) (s .choices-same)) ∙ e
 -- ---- a model that agrees on the choices
 
 -- A model of a set with the rules of u that agrees with f on the choices.
-record AgreeingModel (u : Theory) (on off f : ℕ) : Type 0 where
+pub record AgreeingModel (u : Theory) (on off f : ℕ) : Type 0 where
   pub filling : ℕ
   pub model : ModelOf u on off filling
   pub alike : (v : ℕ) → min (bit filling v) (bit (u .choices) v) ≡ min (bit f v) (bit (u .choices) v)
 
 module _ {t u : Theory} (s : SameChoices t u) {on off : ℕ} (x : Within on (t .choices)) (y : Within off (t .choices)) where
   -- every model of a set over the choices with the rules of t has one
-  agreeing-model : (f : ℕ) → ModelOf t on off f → AgreeingModel u on off f
+  pub agreeing-model : (f : ℕ) → ModelOf t on off f → AgreeingModel u on off f
   agreeing-model f m =
       record {
         filling = r .filling;
@@ -77,7 +77,7 @@ module _ {t u : Theory} (s : SameChoices t u) {on off : ℕ} (x : Within on (t .
 -- ---- the law
 
 -- two tests that pass together
-same-truth : (a b : Bool) → (a ≡ true → b ≡ true) → (b ≡ true → a ≡ true) → a ≡ b
+pub same-truth : (a b : Bool) → (a ≡ true → b ≡ true) → (b ≡ true → a ≡ true) → a ≡ b
 same-truth true b there back = sym (there refl)
 same-truth false true there back = back refl
 same-truth false false there back = refl

@@ -1,0 +1,33 @@
+-- Always the same model (document 02, E5): what the first model is, for every filling, and that nothing is free in it. proofs/FirstModel shows it.
+use mathlib.Core.Path.{_≡_}
+use mathlib.Core.Bool.{true}
+use mathlib.Core.List.{List}
+use Prim.Native.Nat.{ℕ}
+use Rattle.records.specs.Format.{Read, value, refused, OrderBook}
+use Rattle.sat.specs.Meaning.{obeysRules}
+use Rattle.first_model.specs.Meaning.{First}
+use Rattle.problem.specs.Problem.{problemOf}
+use Rattle.consequence.specs.Demand2.{NoFilling}
+use Rattle.consequence.specs.Algorithm2.{ModelFilling}
+use Rattle.engine.specs.Calls.{ModelCall}
+use Rattle.engine.specs.declared.ModelAnswer.{ModelAnswer}
+use Rattle.engine.specs.declared.ModelAnswer.the-variants as ModelAnswer
+
+-- What is answered is a model of the book and comes before every other one. A proper book is refused only where no filling is a model.
+-- `answer-first` shows it of `modelAnswer`.
+abbrev pub AnswersFirst : Read OrderBook → ModelAnswer → Type 0
+AnswersFirst (value b end) (ModelAnswer.Model f) = First (ModelFilling (problemOf b)) f
+AnswersFirst (value b end) (ModelAnswer.Refused number place) = NoFilling (problemOf b)
+AnswersFirst (refused number place) r = r ≡ ModelAnswer.Refused number place
+
+-- The same answer to the bytes s and to the bytes t. `equal-bytes` shows it where they are equal, `same-model` where they read as two books as below.
+pub record SameModel (s t : List ℕ) : Type 0 where
+  pub same : {r o : ModelAnswer} → ModelCall s r → ModelCall t o → r ≡ o
+
+-- Two books over the same variables with the same given facts, whose rules the same fillings obey. Choices and costs may differ. So it is where only the
+-- order of the rules differs (`reordered-obeyed`).
+pub record SameObeyed (b c : OrderBook) : Type 0 where
+  pub same-variables : b .header .variables ≡ c .header .variables
+  pub same-facts : b .facts ≡ c .facts
+  pub there : (f : ℕ) → obeysRules f (b .rules) ≡ true → obeysRules f (c .rules) ≡ true
+  pub back : (f : ℕ) → obeysRules f (c .rules) ≡ true → obeysRules f (b .rules) ≡ true
