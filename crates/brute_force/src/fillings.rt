@@ -1,5 +1,6 @@
 // All fillings of a book gone through one by one. Bit v - 1 of a filling, and of a mask, stands for variable v.
 use samples::limits;
+use samples::order;
 use samples::reckon::Reckoned;
 
 // The fillings that obey every rule of a book of up to twenty variables, at the start of a room, and whether they are all
@@ -137,19 +138,6 @@ pub fn facts(b: Reckoned) -> Literals {
     }
 }
 
-// Whether a number is a model of the book.
-pub fn is_model(b: Reckoned, filling: u64) -> bool {
-    if filling >= power(b.variables) {
-        return false;
-    }
-    let yes = b.yes;
-    let no = b.no;
-    if !obeys(&yes, &no, b.rules, filling) {
-        return false;
-    }
-    holds(filling, facts(b))
-}
-
 // How many fillings are gone through: all of them, or none where there are too many.
 pub fn number_of(variables: usize) -> u64 {
     if variables <= Fillings::VARIABLES {
@@ -198,6 +186,40 @@ pub fn possible(fillings: &[u64], all: Literals) -> bool {
         }
     }
     false
+}
+
+// The first so far, or a filling that makes all of the literals true and comes before it.
+fn earlier(first: u64, filling: u64, all: Literals) -> u64 {
+    if holds(filling, all) && order::comes_before(filling, first) {
+        filling
+    } else {
+        first
+    }
+}
+
+// The first of these fillings in which all of the literals are true. All bits are set where there is none.
+pub fn first_model(fillings: &[u64], all: Literals) -> u64 {
+    let mut first = !0u64;
+    for i in 0..fillings.len() {
+        first = earlier(first, fillings[i], all);
+    }
+    first
+}
+
+// The first model of a book of up to twenty variables, also where there is no room for all fillings that obey its rules.
+pub fn first_of_book(b: Reckoned) -> u64 {
+    let yes = b.yes;
+    let no = b.no;
+    let rules = b.rules;
+    let all = number_of(b.variables);
+    let given = facts(b);
+    let mut first = !0u64;
+    for filling in 0..all {
+        if obeys(&yes, &no, rules, filling) {
+            first = earlier(first, filling, given);
+        }
+    }
+    first
 }
 
 // The literals over the choices of a mask that are true in each of these fillings in which the given ones are.

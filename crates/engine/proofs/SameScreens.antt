@@ -94,7 +94,7 @@ chosen-weight {p} {q} w z x k e {f} {g} a m =
     let h = agreeing-model (theories-same z w y) (z .yes-facts) (z .no-facts) g (filling-model q (z .facts-proper) g m) in
     let n = model-filling p (w .facts-proper) (h .filling) (subst (λ (l : LiteralSet). ModelOf (theoryOf p) (l .yes) (l .no) (h .filling)) (given-same z w y) (h .model)) in
     let same : (v : ℕ) → v < k → bit (h .filling) v ≡ bit g v =
-            λ v l. omega (arith, h .alike v, ap (λ (c : ℕ). bit c v) e, bit-full k v l, bit-le g v, bit-le (h .filling) v) in
+    λ v l. omega (arith, h .alike v, ap (λ (c : ℕ). bit c v) e, bit-full k v l, bit-le g v, bit-le (h .filling) v) in
     omega (arith, first-weight a k (h .filling) n, agree-weight k (h .filling) g same)
 
 -- ---- one log
@@ -198,8 +198,11 @@ module _ {s t : List ℕ} (x : Retyped s t) where
   unfolding problemOf
   chosen-same {f} {g} a c =
       let k = x .book .header .choices in
-      let same = weight-agree k f g (omega (arith, chosen-weight w z alike k refl a (c .among),
-              chosen-weight z w (over-choices-back alike) k (ap full (sym (x .same .same-choices))) c (a .among))) in
+      let same = weight-agree k f g (omega (
+        arith,
+        chosen-weight w z alike k refl a (c .among),
+        chosen-weight z w (over-choices-back alike) k (ap full (sym (x .same .same-choices))) c (a .among),
+      )) in
       ext (inter f (full k)) (inter g (full k)) (λ v. by-cases (decLt v k)
       (λ l. omega (arith, bit-inter f (full k) v, bit-inter g (full k) v, same v l))
       (λ l. omega (arith, bit-inter f (full k) v, bit-inter g (full k) v, bit-full-high k v (omega arith))))

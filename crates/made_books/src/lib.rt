@@ -30,6 +30,16 @@ pub struct Kind {
     pub cost: u16,
 }
 
+// A kind, by its form.
+pub fn of_form(form: Form, variables: u8, choices: u8, cost: u16) -> Kind {
+    Kind {
+        form,
+        variables,
+        choices,
+        cost,
+    }
+}
+
 // What the books of a kind are like that are drawn to a shape.
 fn shape(kind: Kind, seed: u64) -> Shape {
     let form = kind.form;

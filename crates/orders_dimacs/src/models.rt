@@ -15,14 +15,16 @@ use engine::ModelAnswer;
 use samples::build;
 use samples::build::Draft;
 use samples::limits;
+use samples::order;
 use samples::random;
 
-// How many fillings there are, how many satisfy the file, at how many file and book differ; and the variables that are yes,
-// and no, in all that satisfy it.
+// How many fillings there are, how many satisfy the file, at how many file and book differ; the first that satisfies it; and
+// the variables that are yes, and no, in all that do.
 struct Found {
     all: u64,
     models: u64,
     differ: u64,
+    first: u64,
     yes: u64,
     no: u64,
 }
@@ -39,6 +41,9 @@ fn with(mut f: Found, filling: u64, satisfied: bool, obeyed: bool) -> Found {
     }
     if satisfied {
         f.models = tally::sum(f.models, 1);
+        if order::comes_before(filling, f.first) {
+            f.first = filling;
+        }
         f.yes = f.yes & filling;
         f.no = f.no & !filling;
     }
@@ -55,6 +60,7 @@ fn all_fillings(r: Reckoned, book: &[u8]) -> Found {
         all,
         models: 0,
         differ: 0,
+        first: !0u64,
         yes: every,
         no: every,
     };
@@ -70,10 +76,9 @@ fn is_nine(f: Found, number: u8, place: usize) -> bool {
     f.models == 0 && number == 9 && place == 0
 }
 
-fn model_agrees(r: Reckoned, f: Found, book: &[u8]) -> bool {
-    let numbers = r.numbers;
+fn model_agrees(f: Found, book: &[u8]) -> bool {
     match engine::model(book) {
-        ModelAnswer::Model(m) => m < f.all && models::satisfies(&numbers, r.count, m),
+        ModelAnswer::Model(m) => f.models != 0 && m == f.first,
         ModelAnswer::Refused { number, place } => is_nine(f, number, place),
     }
 }
@@ -102,7 +107,7 @@ fn compared(t: Tally, r: Reckoned, book: &[u8]) -> Tally {
     let f = all_fillings(r, book);
     let t = tally::noted_many(t, tally::FILLINGS, f.all, f.differ);
     let t = tally::seen_models(t, f.models != 0);
-    let t = tally::noted(t, tally::MODEL, model_agrees(r, f, book));
+    let t = tally::noted(t, tally::MODEL, model_agrees(f, book));
     let t = tally::noted(t, tally::CONSEQUENCE, consequence_agrees(f, book));
     tally::noted(t, tally::LOG, log_agrees(f, book))
 }

@@ -36,7 +36,7 @@ fn write_others(group: usize) {
         tally::READ => write(b"books of all these texts, read"),
         tally::SMALL => write(b"files of up to 8 variables"),
         tally::FILLINGS => write(b"fillings that satisfy the file and obey the book"),
-        tally::MODEL => write(b"model of the book"),
+        tally::MODEL => write(b"first model of the book"),
         tally::CONSEQUENCE => write(b"consequence of the book"),
         _ => write(b"log of the book, or 9"),
     }

@@ -1,10 +1,10 @@
 // The same books as whole logs.
-use crate::asked_log;
-use crate::tally;
-use crate::tally::Tally;
 use crate::worked;
 use brute_force::fillings::Literals;
 use brute_force::logs::Log;
+use engine_checks::asked_log;
+use engine_checks::tally;
+use engine_checks::tally::Tally;
 use samples::build;
 use samples::build::Draft;
 use samples::counter;

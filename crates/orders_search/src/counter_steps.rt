@@ -1,9 +1,9 @@
 // The orders at the counter of document 01: the engine's steps held against what is written here.
-use crate::asked;
-use crate::tally;
-use crate::tally::Tally;
 use brute_force::fillings::Literals;
 use brute_force::steps::Taken;
+use engine_checks::asked;
+use engine_checks::tally;
+use engine_checks::tally::Tally;
 use samples::build;
 use samples::build::Draft;
 use samples::counter;

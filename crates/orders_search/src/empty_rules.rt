@@ -1,12 +1,10 @@
 // Books that hold a rule of no literals. No filling obeys such a rule, so there is no model whatever else the book says.
-use crate::compare;
-use crate::compare::Due;
-use crate::logged;
-use crate::tally;
-use crate::tally::Tally;
-use crate::walks;
 use brute_force::fillings;
-use brute_force::fillings::Literals;
+use engine_checks::compare;
+use engine_checks::logged;
+use engine_checks::tally;
+use engine_checks::tally::Tally;
+use engine_checks::walks;
 use samples::build;
 use samples::build::Draft;
 use samples::reckon;
@@ -16,16 +14,7 @@ fn no_model(t: Tally, d: Draft) -> Tally {
     let bytes = d.bytes;
     let s = build::part(&bytes, d.len);
     let b = reckon::reckon(s);
-    let read = readings::agree(engine::read_book(s), engine::read_costs(s), b);
-    let due = Due {
-        number: 9,
-        place: 0,
-        forced: Literals { yes: 0, no: 0 },
-    };
-    let forced = compare::same_consequence(compare::consequence_said(s), due);
-    let t = tally::noted(t, tally::READING, read && b.number == 0);
-    let t = tally::noted(t, tally::MODEL, compare::model_agrees(s, b, due));
-    let t = tally::noted(t, tally::CONSEQUENCE, forced);
+    let t = compare::asked(t, s, b, compare::refusal(9, 0));
     let t = tally::seen(t, tally::NO_VARIABLES, b.variables == 0);
     let t = tally::seen(t, tally::EMPTY_RULE, reckon::has_empty_rule(b));
     logged::without_model(walks::without_model(t, s, fillings::facts(b)), s)

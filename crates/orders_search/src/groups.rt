@@ -1,32 +1,22 @@
 // Groups of many books made up.
-use crate::compare;
-use crate::retyped;
-use crate::spread_walks;
-use crate::tally::Tally;
-use crate::walks;
+use engine_checks::compare;
+use engine_checks::tally::Tally;
+use engine_checks::walks;
 use made_books::Kind;
 use samples::build::Draft;
 use samples::random;
 
-// What is asked of each book: its reading, model and consequence; its steps and log; the same of the book spread over the most
-// variables; whether the same retyped is answered alike; whether its choices, costs and facts with the rules of the book after
-// it are not.
+// What is asked of each book: its reading, first model and consequence; or its first model, steps and log.
 pub enum Task {
     Compared,
     Walked,
-    Spread,
-    Retyped,
-    OtherRules,
 }
 
-// One book, and the one after it.
-fn one(t: Tally, what: Task, d: Draft, next: Draft) -> Tally {
+// One book.
+fn one(t: Tally, what: Task, d: Draft) -> Tally {
     match what {
         Task::Compared => compare::count(t, d),
         Task::Walked => walks::count(t, d),
-        Task::Spread => spread_walks::count(t, d),
-        Task::Retyped => retyped::count(t, d),
-        Task::OtherRules => retyped::count_others(t, d, next),
     }
 }
 
@@ -35,9 +25,8 @@ pub fn each(t: Tally, what: Task, books: u32, kind: Kind, start: u64) -> Tally {
     let mut after = t;
     let mut d = made_books::book(kind, start);
     for i in 0..books {
-        let next = made_books::book(kind, random::next(d.seed));
-        after = one(after, what, d, next);
-        d = next;
+        after = one(after, what, d);
+        d = made_books::book(kind, random::next(d.seed));
     }
     after
 }

@@ -1,25 +1,27 @@
 // Books that are too large for the reckoning, walked from their facts to their end: the engine's steps and logs held against
 // what is written here. Costs are 5 for yes and 9 for no.
-use crate::asked;
-use crate::asked_log;
+use crate::counter_models;
 use crate::counter_steps;
-use crate::tally;
-use crate::tally::Tally;
 use brute_force::fillings;
 use brute_force::logs;
 use brute_force::logs::Log;
 use brute_force::steps::Taken;
+use engine_checks::asked;
+use engine_checks::asked_log;
+use engine_checks::tally;
+use engine_checks::tally::Tally;
 use samples::build;
 use samples::build::Draft;
 use samples::limits;
 
 // A book whose first choices, so many, are given as yes, and its steps: each of them brings the next choice. It follows from
-// one fact, the first from the first and so on, or from a set of facts.
+// one fact, the first from the first and so on, or from a set of facts. The first model says yes only of what follows.
 struct Large {
     book: Draft,
     givens: u8,
     steps: u8,
     from_one: bool,
+    model: u64,
 }
 
 // The sets of five facts, as masks, from the smallest to the largest, as far as there are choices for them.
@@ -62,6 +64,7 @@ fn pairs(variables: u8, pairs: u8) -> Large {
         givens: pairs,
         steps: pairs,
         from_one: true,
+        model: fillings::first(std::num::wrapping_add_usize(choices as usize, pairs as usize)),
     }
 }
 
@@ -99,6 +102,7 @@ fn sets() -> Large {
         givens: GIVENS,
         steps: LEFT,
         from_one: false,
+        model: fillings::first(limits::CHOICES as usize),
     }
 }
 
@@ -128,7 +132,7 @@ fn agreed(t: Tally, s: &[u8], log: Log, due: Taken) -> Tally {
     )
 }
 
-// The whole of one book: its steps, that nothing is left, and its log.
+// The whole of one book: its steps, that nothing is left, its first model and its log.
 fn walked(t: Tally, large: Large) -> Tally {
     let d = large.book;
     let bytes = d.bytes;
@@ -144,8 +148,13 @@ fn walked(t: Tally, large: Large) -> Tally {
             log = logs::onward(log, step);
         }
     }
-    let whole = asked_log::log_agrees(s, limits::LOG, log);
-    tally::noted(after, tally::COUNTER_LOGS, whole)
+    let model = counter_models::is_first(s, large.model);
+    let t = tally::noted(after, tally::MODEL, model);
+    tally::noted(
+        t,
+        tally::COUNTER_LOGS,
+        asked_log::log_agrees(s, limits::LOG, log),
+    )
 }
 
 // Ten pairs in a book of 32 variables, sixteen in one of the most, and the sets.

@@ -1,14 +1,14 @@
 // Books in which at most one choice may be yes. The search tries no first, so that the first model found says no to every
 // choice; each one after it says yes to one of them and so takes out one literal, and one model more is found than there are
-// choices left open.
-use crate::compare;
-use crate::compare::Due;
-use crate::models_found;
-use crate::tally;
-use crate::tally::Tally;
+// choices left open. That filling is the first model too.
 use brute_force::algorithm2;
 use brute_force::fillings;
 use brute_force::fillings::Literals;
+use engine_checks::compare;
+use engine_checks::compare::Due;
+use engine_checks::models_found;
+use engine_checks::tally;
+use engine_checks::tally::Tally;
 use samples::build;
 use samples::build::Draft;
 use samples::limits;
@@ -117,12 +117,14 @@ fn one(t: Tally, choices: u8, givens: u8) -> Tally {
     let due = Due {
         number: 0,
         place: 0,
+        model: 0,
         forced: Literals {
             yes: 0,
             no: fillings::first(givens as usize),
         },
     };
     let forced = compare::same_consequence(compare::consequence_said(s), due);
+    let t = tally::noted(t, tally::MODEL, compare::model_agrees(s, due));
     let t = tally::noted(t, tally::CONSEQUENCE, forced);
     let open = std::num::wrapping_sub_u8(choices, givens);
     let models = std::num::wrapping_add_u32(open as u32, 1);

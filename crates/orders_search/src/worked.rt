@@ -1,37 +1,12 @@
 // Orders at the counter whose logs document 01 gives or settles in words: the reckoned log held against these bytes.
-use crate::tally;
-use crate::tally::Tally;
 use brute_force::fillings;
 use brute_force::logs;
+use engine_checks::tally;
+use engine_checks::tally::Tally;
 use samples::build;
 use samples::build::Draft;
 use samples::counter;
 use samples::reckon;
-
-// Whether two rows of bytes are the same.
-fn same_bytes(a: &[u8], b: &[u8]) -> bool {
-    if a.len() != b.len() {
-        return false;
-    }
-    for i in 0..a.len() {
-        if byte_at(a, i) != byte_at(b, i) {
-            return false;
-        }
-    }
-    true
-}
-
-// The byte at a place, or 0.
-fn byte_at(s: &[u8], place: usize) -> u8 {
-    if place < s.len() { s[place] } else { 0 }
-}
-
-// Whether two drafts have the same bytes.
-pub fn same_drafts(a: Draft, b: Draft) -> bool {
-    let bytes = a.bytes;
-    let other_bytes = b.bytes;
-    same_bytes(build::part(&bytes, a.len), build::part(&other_bytes, b.len))
-}
 
 // The reckoned log of a good book.
 fn reckoned_log(d: Draft) -> Draft {
@@ -69,7 +44,7 @@ fn log_of_p() -> Draft {
 // One more order.
 fn one(t: Tally, letter: u8) -> Tally {
     let log = reckoned_log(counter::order(letter));
-    tally::noted(t, tally::WORKED, same_drafts(log, log_of(letter)))
+    tally::noted(t, tally::WORKED, build::same_drafts(log, log_of(letter)))
 }
 
 // Book P and the orders d, g, h and i.

@@ -155,3 +155,28 @@ pub fn fitting(room: &[u8], len: usize) -> usize
 pub fn part(s: &[u8], len: usize) -> &[u8] {
     if len <= s.len() { &s[0..len] } else { s }
 }
+
+// The byte at a place, or 0.
+fn byte_at(s: &[u8], place: usize) -> u8 {
+    if place < s.len() { s[place] } else { 0 }
+}
+
+// Whether two rows of bytes are the same.
+fn same_bytes(a: &[u8], b: &[u8]) -> bool {
+    if a.len() != b.len() {
+        return false;
+    }
+    for i in 0..a.len() {
+        if byte_at(a, i) != byte_at(b, i) {
+            return false;
+        }
+    }
+    true
+}
+
+// Whether two drafts have the same bytes.
+pub fn same_drafts(a: Draft, b: Draft) -> bool {
+    let bytes = a.bytes;
+    let other_bytes = b.bytes;
+    same_bytes(part(&bytes, a.len), part(&other_bytes, b.len))
+}

@@ -1,4 +1,4 @@
-// The starred orders at the counter (document 01) as bytes.
+// The starred orders at the counter (document 01) and one more, as bytes.
 use crate::build;
 use crate::build::Draft;
 
@@ -39,6 +39,14 @@ pub fn order(letter: u8) -> Draft {
         // V = U = R = 1, rule literal 80.
         _ => build::bytes(none, b"HD\x01\x01\x01CS\x01\x00\x05\x00\x09RL\x01\x80EN"),
     }
+}
+
+// U = V = 2, rule (1, 2).
+pub fn either() -> Draft {
+    build::bytes(
+        build::empty(),
+        b"HD\x02\x02\x01CS\x01\x00\x05\x00\x09CS\x02\x00\x05\x00\x09RL\x02\x01\x02EN",
+    )
 }
 
 // Book P, with its own costs.

@@ -5,5 +5,6 @@ pub mod edits;
 mod fields;
 pub mod limits;
 mod machine;
+pub mod order;
 pub mod random;
 pub mod reckon;

@@ -85,7 +85,7 @@ module _ (n : ℕ) (t : ℕ → Bool) where
       go (inr w) = record { below = w .0; passes = w .1 }
       go (inl e) =
           let same : h ≡ r = ext-below n h r (x .below) (rw e (full-lt n))
-                  (weight-agree n h r (omega (arith, k .least h (x .below) (x .passes), rw (sym e) at (full-heaviest n h)))) in
+          (weight-agree n h r (omega (arith, k .least h (x .below) (x .passes), rw (sym e) at (full-heaviest n h)))) in
           rw same at x
 
   pub first-filling : someFilling n t ≡ true → First (Passes n t) (firstFilling n t)

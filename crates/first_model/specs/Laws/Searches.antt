@@ -47,15 +47,19 @@ module _ {on off m v a b : ℕ} (x : Fixed on off m v a b) where
     pub fixed-model : {f : ℕ} → Model n ys ns on off f → ((u : ℕ) → u < v → bit f u ≡ bit m u) → Model n ys ns a b f
     fixed-model {f} w e =
         model-with w
-        (record { keeps = λ u. by-cases (decLt u v) (λ h. omega (arith, fixed-before u h .0, e u h, w .keeps .keeps u))
-            (λ h. omega (arith, fixed-after u (omega arith) .0, w .keeps .keeps u)) })
-        (record { avoids = λ u. by-cases (decLt u v) (λ h. omega (arith, fixed-before u h .1, e u h, w .avoids .avoids u, bit-le f u))
-            (λ h. omega (arith, fixed-after u (omega arith) .1, w .avoids .avoids u)) })
+        (record {
+          keeps = λ u. by-cases (decLt u v) (λ h. omega (arith, fixed-before u h .0, e u h, w .keeps .keeps u))
+              (λ h. omega (arith, fixed-after u (omega arith) .0, w .keeps .keeps u));
+        })
+        (record {
+          avoids = λ u. by-cases (decLt u v) (λ h. omega (arith, fixed-before u h .1, e u h, w .avoids .avoids u, bit-le f u))
+              (λ h. omega (arith, fixed-after u (omega arith) .1, w .avoids .avoids u));
+        })
 
     pub model-fixed : {f : ℕ} → Model n ys ns a b f → Model n ys ns on off f × ((u : ℕ) → u < v → bit f u ≡ bit m u)
     model-fixed {f} w = (
       model-with w (record { keeps = λ u. omega (arith, fixed-on u, w .keeps .keeps u) })
-      (record { avoids = λ u. omega (arith, fixed-off u, w .avoids .avoids u) }),
+          (record { avoids = λ u. omega (arith, fixed-off u, w .avoids .avoids u) }),
       λ u h. omega (arith, fixed-before u h .0, fixed-before u h .1, w .keeps .keeps u, w .avoids .avoids u, bit-le m u, bit-le f u),
     )
 

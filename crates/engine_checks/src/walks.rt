@@ -1,0 +1,237 @@
+// Books walked from the facts to the consequence: the first model, each step, steps from other known sets, and the whole log.
+use crate::asked;
+use crate::compare;
+use crate::logged;
+use crate::tally;
+use crate::tally::Tally;
+use brute_force::fillings;
+use brute_force::fillings::Literals;
+use brute_force::logs;
+use brute_force::logs::Log;
+use brute_force::steps;
+use brute_force::steps::Taken;
+use samples::build;
+use samples::build::Draft;
+use samples::limits;
+use samples::random;
+use samples::reckon;
+use samples::reckon::Reckoned;
+
+// What is reckoned of a book once; the choices as a number and as a mask.
+pub struct Case {
+    pub costs: [u16; limits::COSTS],
+    pub count: usize,
+    pub choices: u64,
+    pub facts: Literals,
+    pub consequence: Literals,
+}
+
+pub fn case_of(all: &[u64], b: Reckoned) -> Case {
+    let costs = b.costs;
+    let choices = fillings::first(b.choices);
+    let facts = fillings::facts(b);
+    Case {
+        costs,
+        count: b.choices,
+        choices,
+        facts,
+        consequence: fillings::forced(all, facts, choices),
+    }
+}
+
+// The step due from a known set.
+pub fn due(all: &[u64], case: Case, known: Literals) -> Taken {
+    let costs = case.costs;
+    steps::next(all, costs, case.choices, known, case.consequence)
+}
+
+// One step more on the way: the engine's held against the reckoned one.
+pub fn one_step(t: Tally, s: &[u8], known: Literals, due: Taken) -> Tally {
+    let t = tally::noted(t, tally::ON_THE_WAY, asked::step_agrees(s, known, due));
+    tally::seen(t, tally::TIED, due.tied)
+}
+
+// The way and its log as reckoned, the engine asked at each known set.
+pub struct Way {
+    pub tally: Tally,
+    pub log: Log,
+}
+
+// One known set on the way.
+fn onward(way: Way, s: &[u8], all: &[u64], case: Case) -> Way {
+    let log = way.log;
+    if log.ended {
+        return way;
+    }
+    let known = log.known;
+    let step = due(all, case, known);
+    let t = way.tally;
+    Way {
+        tally: one_step(t, s, known, step),
+        log: logs::onward(log, step),
+    }
+}
+
+// All known sets on the way.
+fn along(t: Tally, s: &[u8], all: &[u64], case: Case) -> Way {
+    let facts = case.facts;
+    let mut way = Way {
+        tally: t,
+        log: logs::begun(facts),
+    };
+    let records = limits::RECORDS;
+    for i in 0..records {
+        way = onward(way, s, all, case);
+    }
+    way
+}
+
+// The facts, and what the consequence has over the variables of a mask.
+pub fn known_set(case: Case, mask: u64) -> Literals {
+    fillings::joined(case.facts, fillings::within(case.consequence, mask))
+}
+
+// A step from one known set.
+fn from_one(t: Tally, s: &[u8], all: &[u64], case: Case, mask: u64) -> Tally {
+    let known = known_set(case, mask);
+    let agrees = asked::step_agrees(s, known, due(all, case, known));
+    tally::noted(t, tally::FROM_ANY, agrees)
+}
+
+// Steps from some known sets.
+fn from_any(t: Tally, s: &[u8], all: &[u64], case: Case, seed: u64) -> Tally {
+    let mut after = t;
+    let mut mask = seed;
+    let sets: u8 = 4;
+    for i in 0..sets {
+        mask = random::next(mask);
+        after = from_one(after, s, all, case, mask);
+    }
+    after
+}
+
+// Whether a known set lies between the facts and the consequence.
+fn is_proper(case: Case, known: Literals) -> bool {
+    if !fillings::is_empty(fillings::less(case.facts, known)) {
+        return false;
+    }
+    fillings::is_empty(fillings::less(known, case.consequence))
+}
+
+// The group of a known set that is refused.
+fn group_of(case: Case, known: Literals) -> usize {
+    if (known.yes | known.no) & !case.choices != 0 {
+        return tally::NO_CHOICE;
+    }
+    if known.yes & known.no != 0 {
+        return tally::BOTH_WAYS;
+    }
+    if fillings::is_empty(fillings::less(case.facts, known)) {
+        tally::TOO_MUCH
+    } else {
+        tally::FACT_MISSING
+    }
+}
+
+// A known set that may have been spoilt: 10 at 0 where it was.
+fn spoilt(t: Tally, s: &[u8], case: Case, known: Literals) -> Tally {
+    if is_proper(case, known) {
+        return t;
+    }
+    tally::noted(
+        t,
+        group_of(case, known),
+        asked::step_refused(s, known, 10, 0),
+    )
+}
+
+// A known set with one variable yes as well, no as well, and without it.
+fn spoilt_at(t: Tally, s: &[u8], case: Case, known: Literals, bit: u64) -> Tally {
+    let with_yes = Literals {
+        yes: known.yes | bit,
+        no: known.no,
+    };
+    let with_no = Literals {
+        yes: known.yes,
+        no: known.no | bit,
+    };
+    let t = spoilt(spoilt(t, s, case, with_yes), s, case, with_no);
+    spoilt(t, s, case, fillings::within(known, !bit))
+}
+
+// A known set spoilt at each choice, at the two variables after them and at the last bit.
+pub fn spoilt_sets(t: Tally, s: &[u8], case: Case, seed: u64) -> Tally {
+    let known = known_set(case, seed);
+    let mut after = spoilt_at(t, s, case, known, fillings::power(63));
+    let end = std::num::wrapping_add_usize(case.count, 2);
+    for v in 0..end {
+        after = spoilt_at(after, s, case, known, fillings::power(v));
+    }
+    after
+}
+
+// A book without a model: 9 at 0, also where the known set is wrong.
+pub fn without_model(t: Tally, s: &[u8], facts: Literals) -> Tally {
+    let t = tally::noted(t, tally::WITHOUT_MODEL, asked::step_refused(s, facts, 9, 0));
+    let wrong = Literals { yes: 1, no: 1 };
+    tally::noted(t, tally::WITHOUT_MODEL, asked::step_refused(s, wrong, 9, 0))
+}
+
+// A book that is refused: the reader's number and place, also where the known set is wrong.
+fn refused(t: Tally, s: &[u8], number: u8, place: usize) -> Tally {
+    let nothing = Literals { yes: 0, no: 0 };
+    let t = tally::noted(
+        t,
+        tally::REFUSED,
+        asked::step_refused(s, nothing, number, place),
+    );
+    let wrong = Literals { yes: 1, no: 1 };
+    tally::noted(
+        t,
+        tally::REFUSED,
+        asked::step_refused(s, wrong, number, place),
+    )
+}
+
+// The place of a log of so many steps among the kinds.
+pub fn place_of(steps: u64) -> usize {
+    if steps < 7 {
+        tally::STEPS + steps as usize
+    } else {
+        tally::MORE_STEPS
+    }
+}
+
+// A good book and the fillings that obey its rules.
+fn good(t: Tally, s: &[u8], b: Reckoned, all: &[u64], seed: u64) -> Tally {
+    let case = case_of(all, b);
+    if !fillings::possible(all, case.facts) {
+        let t = tally::seen(t, tally::EMPTY_RULE, reckon::has_empty_rule(b));
+        return logged::without_model(without_model(t, s, case.facts), s);
+    }
+    let way = along(t, s, all, case);
+    let log = way.log;
+    let t = tally::seen(way.tally, place_of(log.steps), true);
+    let t = from_any(t, s, all, case, seed);
+    logged::whole(spoilt_sets(t, s, case, random::next(seed)), s, log)
+}
+
+// One more book.
+pub fn count(t: Tally, d: Draft) -> Tally {
+    let bytes = d.bytes;
+    let s = build::part(&bytes, d.len);
+    let b = reckon::reckon(s);
+    if b.number != 0 {
+        let due = compare::refusal(b.number, b.place);
+        let t = tally::noted(t, tally::MODEL, compare::model_agrees(s, due));
+        return logged::refused(refused(t, s, b.number, b.place), s, b.number, b.place);
+    }
+    let obeying = fillings::obeying(b);
+    if !obeying.whole {
+        return tally::seen(t, tally::LEFT_OUT, true);
+    }
+    let room = obeying.room;
+    let all = fillings::part(&room, obeying.count);
+    let model = compare::model_agrees(s, compare::due_of(b, all));
+    good(tally::noted(t, tally::MODEL, model), s, b, all, d.seed)
+}
