@@ -1,6 +1,7 @@
 // Books made up, of several kinds, each from a seed.
 mod circuits;
 mod cores;
+mod covers;
 pub mod made;
 mod shapes;
 mod ties;
@@ -10,14 +11,15 @@ use samples::build::Draft;
 use samples::edits;
 use samples::random;
 
-// Good books of any shape, the same edited, books with a model planted, with many rules, with a hidden core, with many
-// ties, circuits.
+// Good books of any shape, the same edited, books with a model planted, with many rules, with a hidden core, with a
+// yes in each of many pairs, with many ties, circuits.
 pub enum Form {
     Any,
     Edited,
     Planted,
     Dense,
     Core,
+    Covers,
     Ties,
     Circuit,
 }
@@ -63,6 +65,7 @@ pub fn book(kind: Kind, seed: u64) -> Draft {
         Form::Planted => shaped(kind, seed),
         Form::Dense => shaped(kind, seed),
         Form::Core => cores::made(seed),
+        Form::Covers => covers::made(seed, kind.variables, kind.choices, kind.cost),
         Form::Ties => ties::made(seed),
         Form::Circuit => circuits::made(seed, kind.variables, kind.choices, kind.cost),
     }

@@ -39,6 +39,15 @@ fn compared() {
         246813579246813579,
     );
     report::all(b"books with a hidden core:\n", t);
+    let covers = made_books::of_form(Form::Covers, 10, 7, 9);
+    let t = groups::each(
+        tally::none(),
+        Task::Compared,
+        4000,
+        covers,
+        864197532864197532,
+    );
+    report::all(b"books with a yes in each of many pairs:\n", t);
 }
 
 // The orders at the counter, and books too large for the reckoning whose steps are written here.
