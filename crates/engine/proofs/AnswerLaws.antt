@@ -1,9 +1,9 @@
 -- The answers on one model and on the consequence, from what the inner functions found.
 -- Assumes nothing.
 use mathlib.Core.Path.{_≡_, refl, sym, ap, ap₂, subst, _∙_}
-use mathlib.Core.Bool.{Bool, true, false, cond, true≢false}
+use mathlib.Core.Bool.{Bool, true, false, cond}
 use mathlib.Core.List.{List}
-use Prim.Native.Nat.{ℕ, _^_, _<_}
+use Prim.Native.Nat.{ℕ}
 use native.Mathlib.Omega.{arith}
 use lib.Count.{ones-ones}
 use borrow.Author.Tests.{not-true, not-false}
@@ -30,7 +30,7 @@ use Rattle.consequence.specs.Laws.Algorithm2.{narrowed-problem}
 use Rattle.consequence.specs.declared.Consequence.{Consequence}
 use Rattle.consequence.specs.declared.Consequence.the-variants as Consequence
 use Rattle.engine.specs.Calls.{withModel, firstModel, modelAnswer, ModelCall, consequenceAnswer, FillsIn, FoundFor, ConsequenceCall}
-use Rattle.engine.specs.Contracts.{theoryIn, FoundModel, FoundForced}
+use Rattle.engine.specs.Contracts.{FoundModel, FoundForced}
 use Rattle.engine.specs.declared.ModelAnswer.{ModelAnswer}
 use Rattle.engine.specs.declared.ModelAnswer.the-variants as ModelAnswer
 use Rattle.engine.specs.declared.ConsequenceAnswer.{ConsequenceAnswer}

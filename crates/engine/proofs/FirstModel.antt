@@ -1,25 +1,23 @@
 -- Always the same model (E5): the model that is answered is the first for every filling, and books that the same fillings obey have the same one.
 -- Assumes nothing.
 use mathlib.Core.Path.{_≡_, refl, sym, ap, _∙_}
-use mathlib.Core.Bool.{Bool, true, false, cond, _&&_}
+use mathlib.Core.Bool.{Bool, true, false, cond}
 use mathlib.Core.List.{List}
-use Prim.Native.Nat.{ℕ, _^_, _<_}
-use Rattle.literals.specs.Literal.{Literal}
-use Rattle.literals.specs.Truth.{allHold}
+use Prim.Native.Nat.{ℕ}
 use Rattle.literals.specs.Laws.{and-both}
-use Rattle.records.specs.Format.{Read, value, refused, OrderBook, readBook}
-use Rattle.sat.specs.Meaning.{obeysRules, isModel}
-use Rattle.sat.specs.Laws.Fillings.{some-witness, witness-some}
+use Rattle.records.specs.Format.{Read, value, refused, OrderBook}
+use Rattle.sat.specs.Meaning.{isModel}
+use Rattle.sat.specs.Laws.Fillings.{witness-some}
 use Rattle.sat.specs.Laws.Rules.{rules-each, each-rules}
 use Rattle.first_model.specs.Meaning.{First}
 use Rattle.first_model.specs.Laws.Order.{first-unique, first-as}
-use Rattle.first_model.specs.Laws.FirstFilling.{Passes, first-filling}
+use Rattle.first_model.specs.Laws.FirstFilling.{first-filling}
 use Rattle.problem.specs.Problem.{Problem, problemOf}
 use Rattle.consequence.specs.Meaning.{models, hasModel}
 use Rattle.consequence.specs.Algorithm2.{ModelFilling}
 use Rattle.consequence.specs.Laws.Problems.{no-filling}
 use Rattle.consequence.specs.Laws.SameFillings.{same-truth}
-use Rattle.engine.specs.Calls.{withModel, firstModel, modelAnswer, ModelCall}
+use Rattle.engine.specs.Calls.{withModel, firstModel, modelAnswer}
 use Rattle.engine.specs.FirstModel.{AnswersFirst, SameModel, SameObeyed}
 use Rattle.engine.specs.SameScreens.{Reordered, BothRead}
 use Rattle.engine.specs.declared.ModelAnswer.{ModelAnswer}
@@ -36,7 +34,7 @@ module _ (p : Problem) where
       first-as (λ f m. record { below = m .below; is-model = m .passes }) (λ f m. record { below = m .below; passes = m .is-model })
       (first-filling (p .variables) (models p) e)
 
-  -- and what is first is it
+  -- what is first is it
   pub first-has : {f : ℕ} → First (ModelFilling p) f → hasModel p ≡ true
   unfolding hasModel
   first-has {f} x = witness-some _ (models p) f (x .among .below) (x .among .is-model)
@@ -66,7 +64,7 @@ obeyed-model : {b c : OrderBook} → SameObeyed b c → (f : ℕ) → ModelFilli
 unfolding problemOf models isModel
 obeyed-model x f m =
     let w = and-both _ _ (m .is-model) in
-    record { below = rw (x .same-variables) at (m .below); is-model = rw (x .there f (w .0), ← (x .same-facts)) (w .1) }
+    record { below = rw (x .same-variables) at (m .below); is-model = rw (x .there f (m .below) (w .0), ← (x .same-facts)) (w .1) }
 
 obeyed-back : {b c : OrderBook} → SameObeyed b c → SameObeyed c b
 obeyed-back x = record { same-variables = sym (x .same-variables); same-facts = sym (x .same-facts); there = x .back; back = x .there }
@@ -96,6 +94,6 @@ reordered-obeyed x facts =
     record {
       same-variables = x .same-variables;
       same-facts = facts;
-      there = λ f o. each-rules _ _ (λ l m. rules-each _ _ o l (x .rules-back l m));
-      back = λ f o. each-rules _ _ (λ l m. rules-each _ _ o l (x .rules-there l m));
+      there = λ f h o. each-rules _ _ (λ l m. rules-each _ _ o l (x .rules-back l m));
+      back = λ f h o. each-rules _ _ (λ l m. rules-each _ _ o l (x .rules-there l m));
     }

@@ -85,17 +85,17 @@ over-choices-back x =
       same-fillings = record { there = x .same-fillings .back; back = x .same-fillings .there };
     }
 
--- over the choices, which are the first variables, a model of the one is a model of the other, so that no first model weighs less than the other
+-- over the choices, which are the first variables, a model of the one is a model of the other: the first model of the one weighs no more than any of them
 chosen-weight : {p q : Problem} (w : ProperProblem p) (z : ProperProblem q) (x : SameOverChoices p q) (k : ℕ) → p .choices ≡ full k → {f g : ℕ}
     → First (ModelFilling p) f → ModelFilling q g → weight k f ≤ weight k g
 unfolding theoryOf
 chosen-weight {p} {q} w z x k e {f} {g} a m =
     let y = over-choices-back x in
     let h = agreeing-model (theories-same z w y) (z .yes-facts) (z .no-facts) g (filling-model q (z .facts-proper) g m) in
-    let n = model-filling p (w .facts-proper) (h .filling) (subst (λ (l : LiteralSet). ModelOf (theoryOf p) (l .yes) (l .no) (h .filling)) (given-same z w y) (h .model)) in
+    let there = subst (λ (l : LiteralSet). ModelOf (theoryOf p) (l .yes) (l .no) (h .filling)) (given-same z w y) (h .model) in
     let same : (v : ℕ) → v < k → bit (h .filling) v ≡ bit g v =
     λ v l. omega (arith, h .alike v, ap (λ (c : ℕ). bit c v) e, bit-full k v l, bit-le g v, bit-le (h .filling) v) in
-    omega (arith, first-weight a k (h .filling) n, agree-weight k (h .filling) g same)
+    omega (arith, first-weight a k (h .filling) (model-filling p (w .facts-proper) (h .filling) there), agree-weight k (h .filling) g same)
 
 -- ---- one log
 

@@ -1,7 +1,7 @@
 -- What the public calls mean, for any bytes: the answer of each, by equation, and the demands in the words of document 01. The contracts in src/lib.rt
 -- unfold to what stands here. Document 01's number and values are given for each case of an answer.
 use mathlib.Core.Path.{_≡_}
-use mathlib.Core.Bool.{Bool, true, false, cond, _&&_}
+use mathlib.Core.Bool.{Bool, true, cond, _&&_}
 use mathlib.Core.List.{List, _++_}
 use Prim.Native.Nat.{ℕ, _+_, _^_, _≤_, _<_}
 use lib.Dec.{ltb}

@@ -2,7 +2,7 @@
 use mathlib.Core.Path.{_≡_}
 use mathlib.Core.Bool.{true}
 use mathlib.Core.List.{List}
-use Prim.Native.Nat.{ℕ}
+use Prim.Native.Nat.{ℕ, _^_, _<_}
 use Rattle.records.specs.Format.{Read, value, refused, OrderBook}
 use Rattle.sat.specs.Meaning.{obeysRules}
 use Rattle.first_model.specs.Meaning.{First}
@@ -29,5 +29,5 @@ pub record SameModel (s t : List ℕ) : Type 0 where
 pub record SameObeyed (b c : OrderBook) : Type 0 where
   pub same-variables : b .header .variables ≡ c .header .variables
   pub same-facts : b .facts ≡ c .facts
-  pub there : (f : ℕ) → obeysRules f (b .rules) ≡ true → obeysRules f (c .rules) ≡ true
-  pub back : (f : ℕ) → obeysRules f (c .rules) ≡ true → obeysRules f (b .rules) ≡ true
+  pub there : (f : ℕ) → f < 2 ^ b .header .variables → obeysRules f (b .rules) ≡ true → obeysRules f (c .rules) ≡ true
+  pub back : (f : ℕ) → f < 2 ^ c .header .variables → obeysRules f (c .rules) ≡ true → obeysRules f (b .rules) ≡ true

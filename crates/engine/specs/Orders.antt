@@ -25,7 +25,8 @@ use Rattle.step.specs.Meaning.{isCandidate, candidateCost, before, earlier, fir
 use Rattle.step.specs.Meaning.{theStep, Answer, newOn, newOff, stepFrom, stepOf}
 use Rattle.log_form.specs.Format.{listBytes, twoBytes, fourBytes, recordBytes, recordsBytes, okBytes, logBytes}
 use Rattle.log.specs.Meaning.{costsWritten, withNew, runFrom, runOf, runFor}
-use Rattle.engine.specs.Calls.{withModel, firstModel, modelAnswer, consequenceAnswer, between, stepSays, stepFor, stepAnswer, logOutcome, logAnswer, bufferAfter}
+use Rattle.engine.specs.Calls.{withModel, firstModel, modelAnswer, consequenceAnswer, between, stepSays, stepFor, stepAnswer, logOutcome}
+use Rattle.engine.specs.Calls.{logAnswer, bufferAfter}
 use Rattle.engine.specs.declared.ModelAnswer.{ModelAnswer}
 use Rattle.engine.specs.declared.ModelAnswer.the-variants as Model
 use Rattle.engine.specs.declared.ConsequenceAnswer.{ConsequenceAnswer}

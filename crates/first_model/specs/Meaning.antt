@@ -24,7 +24,7 @@ unfoldable pub firstUnder : ℕ → (ℕ → Bool) → ℕ → ℕ → ℕ
 firstUnder n t zero f = f
 firstUnder n t (suc k) f = elim (t k && comesBefore n k f) [ true ↦ firstUnder n t k k | false ↦ firstUnder n t k f ]
 
--- The first filling of n variables that passes the test. What it begins with is the last of all fillings, which says yes of every variable.
+-- The first filling of n variables that passes the test. It begins with the last of all, which says yes of every variable; where none passes it is that one.
 unfoldable pub firstFilling : ℕ → (ℕ → Bool) → ℕ
 firstFilling n t = firstUnder n t (2 ^ n) (full n)
 

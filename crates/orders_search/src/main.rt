@@ -15,39 +15,38 @@ use engine_checks::tally;
 use engine_checks::tally::Tally;
 use groups::Task;
 use made_books::Form;
+use made_books::Kind;
 
-// Readings, first models, consequences and how many models these take.
+// Readings, first models, consequences and how many models these take, of so many books of a kind.
+fn compared_books(heading: &[u8], books: u32, like: Kind, start: u64) {
+    let t = groups::each(tally::none(), Task::Compared, books, like, start);
+    report::all(heading, t);
+}
+
 fn compared() {
     let any = made_books::of_form(Form::Any, 10, 10, 999);
-    let t = groups::each(tally::none(), Task::Compared, 20000, any, 88172645463325252);
-    report::all(b"books made up:\n", t);
+    compared_books(b"books made up:\n", 20000, any, 88172645463325252);
     let edited = made_books::of_form(Form::Edited, 10, 10, 999);
-    let t = groups::each(
-        tally::none(),
-        Task::Compared,
+    compared_books(
+        b"books made up and edited:\n",
         20000,
         edited,
         362436069362436069,
     );
-    report::all(b"books made up and edited:\n", t);
     let core = made_books::of_form(Form::Core, 10, 7, 9);
-    let t = groups::each(
-        tally::none(),
-        Task::Compared,
+    compared_books(
+        b"books with a hidden core:\n",
         4000,
         core,
         246813579246813579,
     );
-    report::all(b"books with a hidden core:\n", t);
     let covers = made_books::of_form(Form::Covers, 10, 7, 9);
-    let t = groups::each(
-        tally::none(),
-        Task::Compared,
+    compared_books(
+        b"books with a yes in each of many pairs:\n",
         4000,
         covers,
         864197532864197532,
     );
-    report::all(b"books with a yes in each of many pairs:\n", t);
 }
 
 // The orders at the counter, and books too large for the reckoning whose steps are written here.

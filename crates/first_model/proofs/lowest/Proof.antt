@@ -1,6 +1,5 @@
 -- `first_model::lowest` meets its contract. The invariant: the model is the first as far as the variables before `v` go. Assumes nothing.
 use Prim.Native.Nat.{_-_, _≤_}
-use native.Mathlib.Omega.{arith}
 use borrow.Author.Needs.{needs}
 use Rattle.first_model.specs.Contracts.{FirstUpTo}
 use Rattle.first_model.specs.Laws.Searches.{begins, ends}

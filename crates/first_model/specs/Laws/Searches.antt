@@ -3,13 +3,13 @@ use mathlib.Core.Path.{_≡_, refl, sym, ap, subst, _∙_}
 use mathlib.Core.Logic.{by-cases}
 use mathlib.Core.Bool.{Bool, true, false, not}
 use mathlib.Core.List.{List}
-use Prim.Native.Nat.{ℕ, _+_, _-_, _^_, _≤_, _<_, max, min}
+use Prim.Native.Nat.{ℕ, _+_, _-_, _≤_, _<_, max, min}
 use native.Mathlib.Decide.{decLt, ℕ-discrete}
 use native.Mathlib.Omega.{arith}
 use lib.Pow.{pow-lt}
 use borrow.Author.Tests.{not-true, not-false}
-use Rattle.sets.specs.Sets.{bit, full, has, union, inter, diff, Within, Apart}
-use Rattle.sets.specs.Laws.Bits.{bit-le, bit-union, bit-inter, bit-diff, bit-full, bit-full-high, union-lt, inter-lt, diff-lt, full-lt}
+use Rattle.sets.specs.Sets.{bit, full, has, union, inter, diff}
+use Rattle.sets.specs.Laws.Bits.{bit-le, bit-union, bit-inter, bit-diff, bit-full, bit-full-high, union-lt, diff-lt, full-lt}
 use Rattle.sets.specs.Laws.Subset.{has-true, has-false, within-le}
 use Rattle.propagation.specs.Contracts.{Assigned}
 use Rattle.sat.specs.Meaning.{Model, NoModel}
