@@ -18,7 +18,7 @@ use Rattle.consequence.specs.Algorithm2.{ModelFilling}
 use Rattle.consequence.specs.Laws.Problems.{no-filling}
 use Rattle.consequence.specs.Laws.SameFillings.{same-truth}
 use Rattle.engine.specs.Calls.{withModel, firstModel, modelAnswer}
-use Rattle.engine.specs.FirstModel.{AnswersFirst, SameModel, SameObeyed}
+use Rattle.engine.specs.FirstModel.{AnswersFirst, EqualModels, SameObeyed}
 use Rattle.engine.specs.SameScreens.{Reordered, BothRead}
 use Rattle.engine.specs.declared.ModelAnswer.{ModelAnswer}
 use Rattle.engine.specs.declared.ModelAnswer.the-variants as ModelAnswer
@@ -56,7 +56,7 @@ answer-first (value b end) = go (hasModel (problemOf b)) refl
 
 -- ---- nothing is free
 
-pub equal-bytes : (s : List ℕ) → SameModel s s
+pub equal-bytes : (s : List ℕ) → EqualModels s s
 equal-bytes s = record { same = λ c d. c .said ∙ sym (d .said) }
 
 -- the models of the one are models of the other
@@ -83,7 +83,7 @@ obeyed-answers {b} {c} x end other =
     after-nine _ _ (same-truth _ _ (has-there x) (has-there (obeyed-back x))) _ _ _
     (λ e. ap ModelAnswer.Model (is-first-model (problemOf c) (first-there x (first-model (problemOf b) e))))
 
-pub same-model : {s t : List ℕ} → BothRead SameObeyed s t → SameModel s t
+pub same-model : {s t : List ℕ} → BothRead SameObeyed s t → EqualModels s t
 same-model x = record {
   same = λ c d. c .said ∙ ap modelAnswer (x .accepted) ∙ obeyed-answers (x .same) (x .end) (x .other-end) ∙ sym (d .said ∙ ap modelAnswer (x .other-accepted));
 }
@@ -97,3 +97,15 @@ reordered-obeyed x facts =
       there = λ f h o. each-rules _ _ (λ l m. rules-each _ _ o l (x .rules-back l m));
       back = λ f h o. each-rules _ _ (λ l m. rules-each _ _ o l (x .rules-there l m));
     }
+
+pub reordered-model : {s t : List ℕ} → BothRead (λ b c. Reordered b c × (b .facts ≡ c .facts)) s t → EqualModels s t
+reordered-model x =
+    same-model (record {
+      book = x .book;
+      end = x .end;
+      accepted = x .accepted;
+      other = x .other;
+      other-end = x .other-end;
+      other-accepted = x .other-accepted;
+      same = reordered-obeyed (x .same .0) (x .same .1);
+    })

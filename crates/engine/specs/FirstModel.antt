@@ -20,12 +20,12 @@ AnswersFirst (value b end) (ModelAnswer.Model f) = First (ModelFilling (problemO
 AnswersFirst (value b end) (ModelAnswer.Refused number place) = NoFilling (problemOf b)
 AnswersFirst (refused number place) r = r ≡ ModelAnswer.Refused number place
 
--- The same answer to the bytes s and to the bytes t. `equal-bytes` shows it where they are equal, `same-model` where they read as two books as below.
-pub record SameModel (s t : List ℕ) : Type 0 where
+-- The same answer to the bytes s and to the bytes t. `equal-bytes` shows it where they are equal, `same-model` where they read as two books as below, and
+-- `reordered-model` where only the order of the rules differs.
+pub record EqualModels (s t : List ℕ) : Type 0 where
   pub same : {r o : ModelAnswer} → ModelCall s r → ModelCall t o → r ≡ o
 
--- Two books over the same variables with the same given facts, whose rules the same fillings obey. Choices and costs may differ. So it is where only the
--- order of the rules differs (`reordered-obeyed`).
+-- Two books over the same variables with the same given facts, whose rules the same fillings obey. Choices and costs may differ.
 pub record SameObeyed (b c : OrderBook) : Type 0 where
   pub same-variables : b .header .variables ≡ c .header .variables
   pub same-facts : b .facts ≡ c .facts

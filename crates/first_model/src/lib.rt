@@ -23,8 +23,8 @@ fn fixed(p: Partial, m: u64, v: u32) -> Partial
     }
 }
 
-// The model, where it is the first as far as the variables before `v` go, or another that is the first as far as `v` goes too:
-// where it says yes of `v`, which is not given, a model is asked for that agrees with it before `v` and says no.
+// A model that is the first as far as the variables up to `v` go, from one that is as far as those before `v` go. That one is
+// kept where it says no of `v` or `v` is given as yes; otherwise one is asked for that agrees with it before `v` and says no.
 fn lowered(n: u32, yes: &[u64], no: &[u64], p: Partial, m: u64, v: u32) -> u64
     requires { ⌜ Lowering n (now yes) (now no) (p .on) (p .off) m v ⌝ }
     ensures { λ r. ⌜ FirstUpTo n (now (yes .entry)) (now (no .entry)) (p .on) (p .off) (v + 1) r ⌝ }
@@ -39,7 +39,7 @@ fn lowered(n: u32, yes: &[u64], no: &[u64], p: Partial, m: u64, v: u32) -> u64
     }
 }
 
-// The first model, from any one on.
+// The first model, from any model: made the first as far as one variable goes after the other.
 fn lowest(n: u32, yes: &[u64], no: &[u64], p: Partial, m: u64) -> u64
     requires { ⌜ Posed n (now yes) (now no) (p .on) (p .off) ⌝ }
     requires { ⌜ Model n (now yes) (now no) (p .on) (p .off) m ⌝ }
