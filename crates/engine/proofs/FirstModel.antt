@@ -83,10 +83,15 @@ obeyed-answers {b} {c} x end other =
     after-nine _ _ (same-truth _ _ (has-there x) (has-there (obeyed-back x))) _ _ _
     (λ e. ap ModelAnswer.Model (is-first-model (problemOf c) (first-there x (first-model (problemOf b) e))))
 
+-- books of which it is known in another way that the same fillings obey their rules
+module _ {related : OrderBook → OrderBook → Type 0} (obeyed : (b c : OrderBook) → related b c → SameObeyed b c) where
+  models-equal : {s t : List ℕ} → BothRead related s t → EqualModels s t
+  models-equal x =
+      let here = ap modelAnswer (x .accepted) ∙ obeyed-answers (obeyed (x .book) (x .other) (x .same)) (x .end) (x .other-end) in
+      record { same = λ c d. c .said ∙ here ∙ sym (d .said ∙ ap modelAnswer (x .other-accepted)) }
+
 pub same-model : {s t : List ℕ} → BothRead SameObeyed s t → EqualModels s t
-same-model x = record {
-  same = λ c d. c .said ∙ ap modelAnswer (x .accepted) ∙ obeyed-answers (x .same) (x .end) (x .other-end) ∙ sym (d .said ∙ ap modelAnswer (x .other-accepted));
-}
+same-model = models-equal (λ b c x. x)
 
 -- rules in another order are obeyed by the same fillings
 pub reordered-obeyed : {b c : OrderBook} → Reordered b c → b .facts ≡ c .facts → SameObeyed b c
@@ -99,13 +104,4 @@ reordered-obeyed x facts =
     }
 
 pub reordered-model : {s t : List ℕ} → BothRead (λ b c. Reordered b c × (b .facts ≡ c .facts)) s t → EqualModels s t
-reordered-model x =
-    same-model (record {
-      book = x .book;
-      end = x .end;
-      accepted = x .accepted;
-      other = x .other;
-      other-end = x .other-end;
-      other-accepted = x .other-accepted;
-      same = reordered-obeyed (x .same .0) (x .same .1);
-    })
+reordered-model = models-equal (λ b c x. reordered-obeyed (x .0) (x .1))
