@@ -54,6 +54,7 @@ pub record NineExactly {A : Type 0} (refuse : ℕ → ℕ → A) (due : Type 0) 
 unfoldable pub firstModel : Problem → ℕ
 firstModel p = firstFilling (p .variables) (models p)
 
+-- The answer: that model, or the refusal.
 unfoldable pub modelAnswer : Read OrderBook → ModelAnswer
 unfolding withModel
 modelAnswer m = withModel (λ p. ModelAnswer.Model (firstModel p)) ModelAnswer.Refused m
