@@ -3,15 +3,23 @@ use crate::fillings;
 use crate::fillings::Literals;
 use samples::limits;
 
-// A goal and a set of known literals: the goal's variable and those of the set as masks, and what the two cost.
-// Masks of one variable are in the order of the variables, and a mask is the sum of 2^(v-1) over its variables v.
+// A goal and a set of known literals: what the two cost, how many literals the set has, and the goal's variable and those
+// of the set as masks. Masks of one variable are in the order of the variables, and a mask is the sum of 2^(v-1) over its
+// variables v.
 pub struct Candidate {
     pub found: bool,
     pub cost: u64,
+    pub facts: u64,
     pub goal: u64,
     pub from: u64,
     // Whether another one costs the same.
     pub tied: bool,
+}
+
+// The best so far, and the best in the order before E6, to which the number of facts is nothing.
+struct Best {
+    now: Candidate,
+    before: Candidate,
 }
 
 // The step, or that nothing is left. The goal is a set of one literal.
@@ -23,12 +31,15 @@ pub struct Taken {
     pub cost: u64,
     // Whether another candidate costs the same.
     pub tied: bool,
+    // Whether the step was another one in the order before E6.
+    pub changed: bool,
 }
 
-// A set of known literals, by its variables too, and what it costs.
+// A set of known literals, by its variables too, how many they are, and what they cost.
 struct Set {
     from: u64,
     literals: Literals,
+    facts: u64,
     cost: u64,
 }
 
@@ -67,11 +78,13 @@ fn cost_of(costs: [u16; limits::COSTS], set: Literals) -> u64 {
     sum
 }
 
-// Whether `a` goes before `b`: by cost, then by the goal, then by the set.
-fn goes_before(a: Candidate, b: Candidate) -> bool {
-    if !b.found {
-        return true;
-    }
+// How many literals a set has: what they cost where each costs 1.
+fn count_of(set: Literals) -> u64 {
+    cost_of([1; limits::COSTS], set)
+}
+
+// Whether `a` went before `b` in the order before E6: by cost, then by the goal, then by the set.
+fn went_before(a: Candidate, b: Candidate) -> bool {
     if a.cost != b.cost {
         return a.cost < b.cost;
     }
@@ -81,28 +94,43 @@ fn goes_before(a: Candidate, b: Candidate) -> bool {
     a.from < b.from
 }
 
+// Whether `a` goes before `b`: by cost, then by the number of facts, then as before.
+fn goes_before(a: Candidate, b: Candidate) -> bool {
+    if a.cost == b.cost && a.facts != b.facts {
+        return a.facts < b.facts;
+    }
+    went_before(a, b)
+}
+
 // The better of a candidate and the best so far, and whether the two cost the same.
-fn better(made: Candidate, best: Candidate) -> Candidate {
-    let equal = best.found && made.cost == best.cost;
-    let mut kept = if goes_before(made, best) { made } else { best };
-    if equal {
+fn better(made: Candidate, best: Candidate, goes: bool) -> Candidate {
+    if !best.found {
+        return made;
+    }
+    let mut kept = if goes { made } else { best };
+    if made.cost == best.cost {
         kept.tied = true;
     }
     kept
 }
 
+// The better of a candidate and the best so far, in each order.
+fn better_of(made: Candidate, best: Best) -> Best {
+    let now = best.now;
+    let before = best.before;
+    Best {
+        now: better(made, now, goes_before(made, now)),
+        before: better(made, before, went_before(made, before)),
+    }
+}
+
 // One goal for a set of known literals: the better of the two and the best so far.
-fn tried(
-    all: &[u64],
-    costs: [u16; limits::COSTS],
-    set: Set,
-    goal: Literals,
-    best: Candidate,
-) -> Candidate {
+fn tried(all: &[u64], costs: [u16; limits::COSTS], set: Set, goal: Literals, best: Best) -> Best {
     let opposite = fillings::opposite(goal);
     let made = Candidate {
         found: true,
         cost: std::num::wrapping_add_u64(set.cost, cost_of(costs, opposite)),
+        facts: set.facts,
         goal: goal.yes | goal.no,
         from: set.from,
         tied: false,
@@ -110,7 +138,7 @@ fn tried(
     if fillings::possible(all, fillings::joined(set.literals, opposite)) {
         best
     } else {
-        better(made, best)
+        better_of(made, best)
     }
 }
 
@@ -120,8 +148,8 @@ fn over_goals(
     costs: [u16; limits::COSTS],
     set: Set,
     goals: Literals,
-    best: Candidate,
-) -> Candidate {
+    best: Best,
+) -> Best {
     let mut kept = best;
     let choices = limits::CHOICES as usize;
     for v in 0..choices {
@@ -140,8 +168,8 @@ fn one_set(
     known: Literals,
     goals: Literals,
     from: u64,
-    best: Candidate,
-) -> Candidate {
+    best: Best,
+) -> Best {
     if from & !(known.yes | known.no) != 0 {
         return best;
     }
@@ -149,9 +177,10 @@ fn one_set(
     let set = Set {
         from,
         literals,
+        facts: count_of(literals),
         cost: cost_of(costs, literals),
     };
-    if best.found && best.cost < set.cost {
+    if best.now.found && best.now.cost < set.cost {
         return best;
     }
     over_goals(all, costs, set, goals, best)
@@ -167,18 +196,18 @@ fn end_of_sets(known: Literals, goals: Literals) -> u64 {
 }
 
 // Every set of known literals, for every goal: the literals of the consequence that are not known.
-fn over_sets(
-    all: &[u64],
-    costs: [u16; limits::COSTS],
-    known: Literals,
-    goals: Literals,
-) -> Candidate {
-    let mut best = Candidate {
+fn over_sets(all: &[u64], costs: [u16; limits::COSTS], known: Literals, goals: Literals) -> Best {
+    let none = Candidate {
         found: false,
         cost: 0,
+        facts: 0,
         goal: 0,
         from: 0,
         tied: false,
+    };
+    let mut best = Best {
+        now: none,
+        before: none,
     };
     let end = end_of_sets(known, goals);
     for from in 0..end {
@@ -197,7 +226,8 @@ pub fn next(
     consequence: Literals,
 ) -> Taken {
     let goals = fillings::less(consequence, known);
-    let best = over_sets(all, costs, known, goals);
+    let both = over_sets(all, costs, known, goals);
+    let best = both.now;
     let reasons = fillings::within(known, best.from);
     let follows = fillings::forced(all, reasons, choices);
     let goal = fillings::within(goals, best.goal);
@@ -209,5 +239,6 @@ pub fn next(
         new,
         cost: best.cost,
         tied: best.tied,
+        changed: best.goal != both.before.goal || best.from != both.before.from,
     }
 }

@@ -3,6 +3,7 @@ pub mod FirstModel
 pub mod ProblemLaws
 mod AnswerLaws
 mod StepLaws
+pub mod FewerReasons
 pub mod DimacsLaws
 pub mod LogLaws
 pub mod SameScreens

@@ -13,16 +13,17 @@ use Rattle.records.specs.Format.{marked, pair, isCost, opened, rising, headerVa
 use Rattle.records.specs.Format.{factAt, atFact, endAt, many, factsFrom, fromRules, Read, OrderBook, readBook}
 use Rattle.book.specs.Answer.{table, padded}
 use Rattle.book.specs.Orders.{order-a, order-b, order-c, order-d, order-e, order-f, order-g, order-h, order-i, order-j}
-use Rattle.book.specs.Orders.{order-empty-rule, order-nine-literals, order-either}
+use Rattle.book.specs.Orders.{order-empty-rule, order-nine-literals, order-either, order-fewer-facts, order-higher-goal}
 use Rattle.sat.specs.Meaning.{everyUnder, everyFilling, someFilling, obeysRules, isModel}
 use Rattle.first_model.specs.Meaning.{weight, comesBefore, firstUnder, firstFilling}
 use Rattle.problem.specs.Problem.{Problem, problemOf, costOf}
 use Rattle.consequence.specs.Meaning.{models, hasModel, follows, collect, yesConsequence, noConsequence, theoryOf, obeying, contradicts, forcesYes}
 use Rattle.consequence.specs.Meaning.{forcesNo, yesForced, noForced}
 use Rattle.items.specs.Weights.{sumBelow}
-use Rattle.step.specs.Meaning.{Question, setCost, yesGoals, noGoals, goals, goalLiteral, reasonsOn, reasonsOff, againstOn, againstOff, refutes}
+use Rattle.step.specs.Meaning.{Question, questionOf, setCost, yesGoals, noGoals, goals, goalLiteral, reasonsOn, reasonsOff, againstOn, againstOff, refutes}
 use Rattle.step.specs.Meaning.{isCandidate, candidateCost, before, earlier, firstOf, candidate, candidatesFor, candidatesBelow, candidates, allKnown}
-use Rattle.step.specs.Meaning.{theStep, Answer, newOn, newOff, stepFrom, stepOf}
+use Rattle.step.specs.Meaning.{theStep, Answer, newOn, newOff, stepFrom, answerWith, stepOf}
+use Rattle.step.specs.LowerGoalFirst.{lowerGoalFirst, lowerGoal, lowerGoalStep}
 use Rattle.log_form.specs.Format.{listBytes, twoBytes, fourBytes, recordBytes, recordsBytes, okBytes, logBytes}
 use Rattle.log.specs.Meaning.{costsWritten, withNew, runFrom, runOf, runFor}
 use Rattle.engine.specs.Calls.{withModel, firstModel, modelAnswer, consequenceAnswer, between, stepSays, stepFor, stepAnswer, logOutcome}
@@ -41,9 +42,9 @@ set y n = record { yes = y; no = n }
 
 -- The definitions that the meaning of a step computes with, and those of a book and its models, named once each.
 unfoldable pub computed : Question → Answer
-unfolding stepOf stepFrom newOn newOff theStep allKnown trailingZeros candidates candidatesBelow candidatesFor candidate firstOf earlier before
+unfolding stepOf answerWith stepFrom newOn newOff theStep allKnown trailingZeros candidates candidatesBelow candidatesFor candidate firstOf earlier before
     candidateCost isCandidate refutes againstOn againstOff reasonsOn reasonsOff goalLiteral goals noGoals yesGoals setCost sumBelow costOf yesForced
-    noForced forcesYes forcesNo contradicts obeying
+    noForced forcesYes forcesNo contradicts obeying ones
 computed q = stepOf q
 
 unfoldable pub readAndPosed : List ℕ → Read OrderBook
@@ -99,6 +100,16 @@ countOrders = refuses order-empty-rule 9 0 ∷ refuses order-nine-literals 5 16 
 unfoldable pub eitherOrders : List OrderRow
 eitherOrders = logs order-either 2 (set 0 0) 7 0 0 (0x4F ∷ 0x4B ∷ 0 ∷ 0 ∷ 0 ∷ 0 ∷ 0 ∷ []) ∷ []
 
+-- On equal cost fewer facts come first, then the lower goal (document 02, E6). 4 follows from 1 and 2 together and from 3 alone: the reason is 3. Where 4
+-- follows from 1 and 2 together and 5 from 3 alone, 5 comes first.
+unfoldable pub fewerOrders : List OrderRow
+fewerOrders =
+    logs order-fewer-facts 15 (set 15 0) 16 1 11
+    (0x53 ∷ 0x54 ∷ 4 ∷ 1 ∷ 3 ∷ 1 ∷ 4 ∷ 0 ∷ 11 ∷ 0x4F ∷ 0x4B ∷ 1 ∷ 0 ∷ 0 ∷ 0 ∷ 11 ∷ [])
+    ∷ logs order-higher-goal 31 (set 31 0) 26 2 22
+    (0x53 ∷ 0x54 ∷ 5 ∷ 1 ∷ 3 ∷ 1 ∷ 5 ∷ 0 ∷ 11 ∷ 0x53 ∷ 0x54 ∷ 4 ∷ 2 ∷ 1 ∷ 2 ∷ 1 ∷ 4 ∷ 0 ∷ 11 ∷ 0x4F ∷ 0x4B ∷ 2 ∷ 0 ∷ 0 ∷ 0 ∷ 22 ∷ [])
+    ∷ []
+
 -- What the meanings say of an order's bytes, with the shortest buffer that serves.
 unfoldable pub meant : List ℕ → OrderRow
 meant s =
@@ -113,7 +124,7 @@ meant s =
 pub orders-agree : map (λ (r : OrderRow). meant (r .bytes)) orders ≡ orders
 unfolding orders meant computed readAndPosed firstComputed order-a order-b order-c order-d order-e order-f order-g order-h order-i order-j consequenceAnswer
     withModel logOutcome logAnswer bufferAfter runFor runOf runFrom withNew logBytes costsWritten okBytes recordsBytes recordBytes listBytes
-    literalsOf twoBytes fourBytes byteOf members membersBelow membersFrom ones
+    literalsOf twoBytes fourBytes byteOf members membersBelow membersFrom
 orders-agree = refl
 
 pub count-orders-agree : map (λ (r : OrderRow). meant (r .bytes)) countOrders ≡ countOrders
@@ -122,8 +133,14 @@ count-orders-agree = refl
 
 pub either-orders-agree : map (λ (r : OrderRow). meant (r .bytes)) eitherOrders ≡ eitherOrders
 unfolding eitherOrders meant computed readAndPosed firstComputed order-either consequenceAnswer withModel logOutcome logAnswer bufferAfter runFor runOf
-    runFrom logBytes costsWritten okBytes recordsBytes fourBytes ones
+    runFrom logBytes costsWritten okBytes recordsBytes fourBytes
 either-orders-agree = refl
+
+pub fewer-orders-agree : map (λ (r : OrderRow). meant (r .bytes)) fewerOrders ≡ fewerOrders
+unfolding fewerOrders meant computed readAndPosed firstComputed order-fewer-facts order-higher-goal consequenceAnswer withModel logOutcome logAnswer
+    bufferAfter runFor runOf runFrom withNew logBytes costsWritten okBytes recordsBytes recordBytes listBytes literalsOf twoBytes fourBytes byteOf members
+    membersBelow membersFrom
+fewer-orders-agree = refl
 
 -- ---- single steps
 
@@ -153,3 +170,30 @@ steps =
 pub steps-agree : map (λ (r : KnownRow). from (r .bytes) (r .yes) (r .no) (stepAnswer (r .yes) (r .no) (readBook (r .bytes)))) steps ≡ steps
 unfolding steps computed readAndPosed order-c order-d order-g order-h order-i stepAnswer stepFor stepSays between withModel
 steps-agree = refl
+
+-- What is said in the order before E6, of a known set that is not refused.
+unfoldable pub lowerGoalAnswer : ℕ → ℕ → Read OrderBook → StepAnswer
+unfolding withModel
+lowerGoalAnswer on off m = withModel (λ p. stepSays (lowerGoalStep (questionOf p (set on off)))) Next.Refused m
+
+-- From 1 2 3 the reason for 4 is 3, before E6 it was 1 2; and 5 from 3 comes first, before E6 it was 4 from 1 2.
+unfoldable pub fewerSteps : List KnownRow
+fewerSteps =
+    from order-fewer-facts 7 0 (Next.Step (pos 4) (set 4 0) (set 8 0) 11)
+    ∷ from order-higher-goal 7 0 (Next.Step (pos 5) (set 4 0) (set 16 0) 11)
+    ∷ []
+
+unfoldable pub lowerGoalSteps : List KnownRow
+lowerGoalSteps =
+    from order-fewer-facts 7 0 (Next.Step (pos 4) (set 3 0) (set 8 0) 11)
+    ∷ from order-higher-goal 7 0 (Next.Step (pos 4) (set 3 0) (set 8 0) 11)
+    ∷ []
+
+pub fewer-steps-agree : map (λ (r : KnownRow). from (r .bytes) (r .yes) (r .no) (stepAnswer (r .yes) (r .no) (readBook (r .bytes)))) fewerSteps ≡ fewerSteps
+unfolding fewerSteps computed readAndPosed order-fewer-facts order-higher-goal stepAnswer stepFor stepSays between withModel
+fewer-steps-agree = refl
+
+pub lower-goal-steps-agree : map (λ (r : KnownRow). from (r .bytes) (r .yes) (r .no) (lowerGoalAnswer (r .yes) (r .no) (readBook (r .bytes)))) lowerGoalSteps
+    ≡ lowerGoalSteps
+unfolding lowerGoalSteps lowerGoalAnswer lowerGoalStep lowerGoal lowerGoalFirst computed readAndPosed order-fewer-facts order-higher-goal stepSays withModel
+lower-goal-steps-agree = refl

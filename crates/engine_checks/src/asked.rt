@@ -66,6 +66,7 @@ fn none(number: u8, place: usize) -> Said {
             new: nothing,
             cost: 0,
             tied: false,
+            changed: false,
         },
     }
 }
@@ -88,6 +89,7 @@ pub fn answer(s: &[u8], known: Literals) -> Said {
                 new: masks(new),
                 cost: wide(cost),
                 tied: false,
+                changed: false,
             },
         },
         StepAnswer::NothingLeft => none(0, 0),

@@ -78,6 +78,8 @@ fn write_group(group: usize) {
 fn write_kind(kind: usize) {
     match kind {
         tally::TIED => write(b"steps with several candidates of the least cost"),
+        tally::CHANGED_STEPS => write(b"steps that were others in the order before E6"),
+        tally::CHANGED_BOOKS => write(b"books with such a step"),
         tally::BAD_BOOKS => write(b"books refused"),
         tally::NO_MODEL => write(b"books without a model"),
         tally::WITH_MORE => write(b"books with a consequence of more than the facts"),

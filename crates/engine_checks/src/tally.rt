@@ -83,37 +83,42 @@ pub const MORE_STEPS: usize = 7;
 // Steps on the way at which several candidates have the least cost.
 pub const TIED: usize = 8;
 
+// Steps on the way that were others in the order before E6, and books with such a step: their logs were others.
+pub const CHANGED_STEPS: usize = 9;
+
+pub const CHANGED_BOOKS: usize = 10;
+
 // Books that are refused, that have no model, that have a consequence with more than the facts.
-pub const BAD_BOOKS: usize = 9;
+pub const BAD_BOOKS: usize = 11;
 
-pub const NO_MODEL: usize = 10;
+pub const NO_MODEL: usize = 12;
 
-pub const WITH_MORE: usize = 11;
+pub const WITH_MORE: usize = 13;
 
 // Books with no variables, with no choices, with no rules.
-pub const NO_VARIABLES: usize = 12;
+pub const NO_VARIABLES: usize = 14;
 
-pub const NO_CHOICES: usize = 13;
+pub const NO_CHOICES: usize = 15;
 
-pub const NO_RULES: usize = 14;
+pub const NO_RULES: usize = 16;
 
 // Books with a rule of no literals.
-pub const EMPTY_RULE: usize = 15;
+pub const EMPTY_RULE: usize = 17;
 
 // Books that are left out: more fillings obey their rules than there is room for.
-pub const LEFT_OUT: usize = 16;
+pub const LEFT_OUT: usize = 18;
 
 // Pairs of books without a model, with a rule of no literals, with a log of at least one step, with one of at least three;
 // masks that are refused with 10.
-pub const PAIRS_NO_MODEL: usize = 17;
+pub const PAIRS_NO_MODEL: usize = 19;
 
-pub const PAIRS_EMPTY_RULE: usize = 18;
+pub const PAIRS_EMPTY_RULE: usize = 20;
 
-pub const PAIRS_WITH_STEP: usize = 19;
+pub const PAIRS_WITH_STEP: usize = 21;
 
-pub const PAIRS_WITH_THREE: usize = 20;
+pub const PAIRS_WITH_THREE: usize = 22;
 
-pub const MASKS_REFUSED: usize = 21;
+pub const MASKS_REFUSED: usize = 23;
 
 // Here end the kinds that have a line each.
 pub const LINES: usize = MASKS_REFUSED + 1;

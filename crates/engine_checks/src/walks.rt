@@ -48,7 +48,14 @@ pub fn due(all: &[u64], case: Case, known: Literals) -> Taken {
 // One step more on the way: the engine's held against the reckoned one.
 pub fn one_step(t: Tally, s: &[u8], known: Literals, due: Taken) -> Tally {
     let t = tally::noted(t, tally::ON_THE_WAY, asked::step_agrees(s, known, due));
-    tally::seen(t, tally::TIED, due.tied)
+    let t = tally::seen(t, tally::TIED, due.tied);
+    tally::seen(t, tally::CHANGED_STEPS, due.changed)
+}
+
+// One more book with a step that was another in the order before E6, where there is one more such step than before it.
+pub fn seen_changed(before: Tally, t: Tally) -> Tally {
+    let changed = t.seen[tally::CHANGED_STEPS] != before.seen[tally::CHANGED_STEPS];
+    tally::seen(t, tally::CHANGED_BOOKS, changed)
 }
 
 // The way and its log as reckoned, the engine asked at each known set.
@@ -211,7 +218,8 @@ fn good(t: Tally, s: &[u8], b: Reckoned, all: &[u64], seed: u64) -> Tally {
     }
     let way = along(t, s, all, case);
     let log = way.log;
-    let t = tally::seen(way.tally, place_of(log.steps), true);
+    let t = seen_changed(t, way.tally);
+    let t = tally::seen(t, place_of(log.steps), true);
     let t = from_any(t, s, all, case, seed);
     logged::whole(spoilt_sets(t, s, case, random::next(seed)), s, log)
 }

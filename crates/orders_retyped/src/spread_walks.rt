@@ -50,6 +50,7 @@ fn spread_step(small: Small, step: Taken) -> Taken {
         new: spread::literals(small, step.new),
         cost: step.cost,
         tied: step.tied,
+        changed: step.changed,
     }
 }
 
@@ -117,7 +118,8 @@ fn large_case(like: Spread) -> Case {
 fn good(t: Tally, s: &[u8], all: &[u64], like: Spread, seed: u64) -> Tally {
     let way = along(t, s, all, like);
     let log = way.log;
-    let t = tally::seen(way.tally, walks::place_of(log.steps), true);
+    let t = walks::seen_changed(t, way.tally);
+    let t = tally::seen(t, walks::place_of(log.steps), true);
     let t = from_any(t, s, all, like, seed);
     let t = walks::spoilt_sets(t, s, large_case(like), random::next(seed));
     logged::whole(t, s, log)

@@ -55,6 +55,24 @@ fn logs_of_orders(t: Tally) -> Tally {
     order(order(t, b'h', 0, 0), b'i', 1, 2)
 }
 
+// The two orders of E6.
+fn logs_of_fewer_facts(t: Tally) -> Tally {
+    let t = logs_as(
+        t,
+        counter::fewer_facts(),
+        worked::log_of_fewer_facts(),
+        1,
+        11,
+    );
+    logs_as(
+        t,
+        counter::higher_goal(),
+        worked::log_of_higher_goal(),
+        2,
+        22,
+    )
+}
+
 // Orders a, e, f and j.
 fn refused_orders(t: Tally) -> Tally {
     let t = refuses(refuses(t, b'a', 1, 0), b'e', 9, 0);
@@ -63,5 +81,5 @@ fn refused_orders(t: Tally) -> Tally {
 
 // All of them.
 pub fn all(t: Tally) -> Tally {
-    refused_orders(logs_of_orders(t))
+    refused_orders(logs_of_fewer_facts(logs_of_orders(t)))
 }

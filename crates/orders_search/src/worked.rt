@@ -1,4 +1,4 @@
-// Orders at the counter whose logs document 01 gives or settles in words: the reckoned log held against these bytes.
+// Orders at the counter whose logs document 01 or 02 gives or settles in words: the reckoned log held against these bytes.
 use brute_force::fillings;
 use brute_force::logs;
 use engine_checks::tally;
@@ -41,14 +41,35 @@ fn log_of_p() -> Draft {
     build::bytes(second, b"OK\x02\x00\x00\x00\x14")
 }
 
-// One more order.
-fn one(t: Tally, letter: u8) -> Tally {
-    let log = reckoned_log(counter::order(letter));
-    tally::noted(t, tally::WORKED, build::same_drafts(log, log_of(letter)))
+// 4 from 3 alone.
+pub fn log_of_fewer_facts() -> Draft {
+    build::bytes(
+        build::empty(),
+        b"ST\x04\x01\x03\x01\x04\x00\x0bOK\x01\x00\x00\x00\x0b",
+    )
 }
 
-// Book P and the orders d, g, h and i.
+// 5 from 3 alone, then 4 from 1 and 2.
+pub fn log_of_higher_goal() -> Draft {
+    let first = build::bytes(build::empty(), b"ST\x05\x01\x03\x01\x05\x00\x0b");
+    let second = build::bytes(first, b"ST\x04\x02\x01\x02\x01\x04\x00\x0b");
+    build::bytes(second, b"OK\x02\x00\x00\x00\x16")
+}
+
+// One more order and its log.
+fn book(t: Tally, d: Draft, due: Draft) -> Tally {
+    let agrees = build::same_drafts(reckoned_log(d), due);
+    tally::noted(t, tally::WORKED, agrees)
+}
+
+fn one(t: Tally, letter: u8) -> Tally {
+    book(t, counter::order(letter), log_of(letter))
+}
+
+// Book P, the orders d, g, h and i, and the two of E6.
 pub fn all(t: Tally) -> Tally {
     let t = one(one(t, b'c'), b'd');
-    one(one(one(t, b'g'), b'h'), b'i')
+    let t = one(one(one(t, b'g'), b'h'), b'i');
+    let t = book(t, counter::fewer_facts(), log_of_fewer_facts());
+    book(t, counter::higher_goal(), log_of_higher_goal())
 }

@@ -4,7 +4,7 @@ use mathlib.Core.Bool.{Bool, not}
 use mathlib.Core.List.{List, []}
 use Prim.Native.Nat.{ℕ, _+_, _*_, _/_, _%_, _^_, _≤_, _<_}
 use lib.ListN.{length}
-use Rattle.sets.specs.Sets.{bit, union, diff, Within}
+use Rattle.sets.specs.Sets.{bit, union, diff, count, Within}
 use Rattle.items.specs.Weights.{sumBelow}
 use Rattle.items.specs.Cheapest.{Least, Minimum}
 use Rattle.items.specs.Contracts.{weightIn}
@@ -32,8 +32,7 @@ knownCost table on off v = bit on v * costOf table v 0 + bit off v * costOf tabl
 
 -- ---- the order as one number
 
--- What a key has room for: the cost of each variable's literal and of a goal's opposite, the number of facts (which settles no tie yet), variables of
--- goals, and sets of choices.
+-- What a key has room for: the cost of each variable's literal and of a goal's opposite, the number of facts, variables of goals, and sets of choices.
 abbrev pub costRoom : ℕ
 costRoom = maxCost * (maxVariables + 1) + 1
 
@@ -46,12 +45,15 @@ goalRoom = maxChoices
 abbrev pub setRoom : ℕ
 setRoom = 2 ^ maxChoices
 
--- What one unit of cost adds to a key.
+-- What one fact adds to a key, and what one unit of cost does.
+abbrev pub factUnit : ℕ
+factUnit = goalRoom * setRoom
+
 abbrev pub costUnit : ℕ
-costUnit = countRoom * goalRoom * setRoom
+costUnit = countRoom * factUnit
 
 abbrev pub keyOf : ℕ → ℕ → ℕ → ℕ
-keyOf cost goal s = cost * costUnit + goal * setRoom + s
+keyOf cost goal s = cost * costUnit + count s * factUnit + goal * setRoom + s
 
 -- There is room for it in a key, which is then a number of 64 bits.
 pub record Small (cost goal s : ℕ) : Type 0 where
@@ -61,13 +63,13 @@ pub record Small (cost goal s : ℕ) : Type 0 where
 
 -- ---- the known literals as items
 
--- What a literal over variable v + 1 of this cost adds to a key: its cost, and its variable in the set.
+-- What a literal over variable v + 1 of this cost adds to a key: its cost, one fact, and its variable in the set.
 abbrev pub literalWeight : ℕ → ℕ → ℕ
-literalWeight cost v = cost * costUnit + 2 ^ v
+literalWeight cost v = cost * costUnit + factUnit + 2 ^ v
 
 -- What the known literal over variable v + 1 adds to a key, and 0 where there is none.
 unfoldable pub itemWeight : List (List ℕ) → ℕ → ℕ → ℕ → ℕ
-itemWeight table on off v = knownCost table on off v * costUnit + bit (union on off) v * 2 ^ v
+itemWeight table on off v = knownCost table on off v * costUnit + bit (union on off) v * (factUnit + 2 ^ v)
 
 pub record Weighed (table : List (List ℕ)) (on off : ℕ) (ws : List ℕ) : Type 0 where
   pub rows : length ws ≡ maxChoices

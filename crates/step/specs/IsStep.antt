@@ -3,7 +3,7 @@ use mathlib.Core.Path.{_≡_}
 use mathlib.Core.Logic.{_⊎_}
 use mathlib.Core.Bool.{Bool, true, false, cond}
 use Prim.Native.Nat.{ℕ, _^_, _≤_, _<_}
-use Rattle.sets.specs.Sets.{bit, union, insert, Within}
+use Rattle.sets.specs.Sets.{bit, union, insert, count, Within}
 use Rattle.literals.specs.Truth.{holds}
 use Rattle.literals.specs.declared.LiteralSet.{LiteralSet}
 use Rattle.literals.specs.Literal.{literalOf}
@@ -62,9 +62,9 @@ pub record Candidature (q : Question) (on off v : ℕ) (says : Bool) : Type 0 wh
 abbrev pub Lex : ℕ → ℕ → Type 0 → Type 0
 Lex a b X = (a < b) ⊎ ((a ≡ b) × X)
 
--- c comes before d, or is d.
+-- c comes before d, or is d: by the cost, the number of facts, the goal's variable, and the sum.
 abbrev pub Upto : Candidate → Candidate → Type 0
-Upto c d = Lex (c .cost) (d .cost) (Lex (c .goal) (d .goal) (c .reasons ≤ d .reasons))
+Upto c d = Lex (c .cost) (d .cost) (Lex (count (c .reasons)) (count (d .reasons)) (Lex (c .goal) (d .goal) (c .reasons ≤ d .reasons)))
 
 -- A candidate's place in the order: its cost is that of the set and the opposite of the goal.
 abbrev pub placed : Question → ℕ → ℕ → ℕ → Bool → Candidate

@@ -11,3 +11,4 @@ pub mod TheStep
 pub mod Steps
 pub mod Unique
 pub mod SameFillings
+pub mod LowerGoalFirst

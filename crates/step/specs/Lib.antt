@@ -1,5 +1,6 @@
 pub mod Meaning
 pub mod IsStep
+pub mod LowerGoalFirst
 pub mod Contracts
 pub mod Laws
 pub mod Theorems

@@ -6,7 +6,7 @@ use mathlib.Core.List.{List, [], _∷_, _++_}
 use Prim.Native.Nat.{ℕ, zero, suc, _+_, _*_, _^_}
 use lib.Count.{trailingZeros}
 use lib.Dec.{eqb, ltb}
-use Rattle.sets.specs.Sets.{bit, has, union, inter, diff, insert, subset}
+use Rattle.sets.specs.Sets.{bit, has, union, inter, diff, insert, subset, count}
 use Rattle.items.specs.Weights.{sumBelow}
 use Rattle.literals.specs.Literal.{Literal, literalOf}
 use Rattle.literals.specs.declared.LiteralSet.{LiteralSet}
@@ -89,7 +89,8 @@ module _ (q : Question) where
 
 -- ---- the order
 
--- A candidate's cost, the variable of its goal, and the variables of its set as a mask, which is the sum of 2 ^ (variable - 1) over them.
+-- A candidate's cost, the variable of its goal, and the variables of its set as a mask, which is the sum of 2 ^ (variable - 1) over them. It has as many
+-- facts as variables, since K says one thing of a variable.
 pub record Candidate : Type 0 where
   pub cost : ℕ
   pub goal : ℕ
@@ -99,14 +100,16 @@ pub record Candidate : Type 0 where
 unfoldable pub before : ℕ → ℕ → Bool → Bool
 before a b tie = ltb a b || (eqb a b && tie)
 
--- The least cost; on equal cost the goal with the lower variable, then the smaller sum.
+-- The least cost; on equal cost fewer facts, then the goal with the lower variable, then the smaller sum (document 02, E6).
 unfoldable pub earlier : Candidate → Candidate → Bool
-earlier a b = before (a .cost) (b .cost) (before (a .goal) (b .goal) (ltb (a .reasons) (b .reasons)))
+earlier a b =
+    before (a .cost) (b .cost)
+    (before (count (a .reasons)) (count (b .reasons)) (before (a .goal) (b .goal) (ltb (a .reasons) (b .reasons))))
 
--- The first in the order of a candidate and a list of them.
-unfoldable pub firstOf : Candidate → List Candidate → Candidate
-firstOf c [] = c
-firstOf c (d ∷ ds) = elim (earlier d c) [ true ↦ firstOf d ds | false ↦ firstOf c ds ]
+-- The first, in an order, of a candidate and a list of them.
+unfoldable pub firstOf : (Candidate → Candidate → Bool) → Candidate → List Candidate → Candidate
+firstOf order c [] = c
+firstOf order c (d ∷ ds) = elim (order d c) [ true ↦ firstOf order d ds | false ↦ firstOf order c ds ]
 
 -- ---- the step
 
@@ -139,7 +142,7 @@ module _ (q : Question) where
 
   -- The first of them.
   unfoldable pub theStep : Candidate
-  theStep = firstOf allKnown candidates
+  theStep = firstOf earlier allKnown candidates
 
 -- A step as it is answered: the goal, the reasons, the new literals and the cost.
 pub record Step : Type 0 where
@@ -173,6 +176,10 @@ module _ (q : Question) where
         cost = c .cost;
       }
 
-  -- "Nothing left" where there is no goal, and in no other case; otherwise the step.
+  -- "Nothing left" where there is no goal, and in no other case; otherwise the step of a candidate.
+  unfoldable pub answerWith : Candidate → Answer
+  answerWith c = elim (eqb (goals q) 0) [ true ↦ nothingLeft | false ↦ step (stepFrom c) ]
+
+  -- The answer from K.
   unfoldable pub stepOf : Answer
-  stepOf = elim (eqb (goals q) 0) [ true ↦ nothingLeft | false ↦ step (stepFrom (theStep q)) ]
+  stepOf = answerWith (theStep q)

@@ -8,8 +8,10 @@ use Rattle.consequence.specs.Meaning.{Theory, contradicts, NoModelOf}
 use Rattle.consequence.specs.SameFillings.{SameChoices}
 use Rattle.step.specs.Meaning.{Question, asking, Step, nothingLeft, step, stepOf}
 use Rattle.step.specs.IsStep.{ForcedBy, Between, Sound, oppositeOn, oppositeOff, Goal, IsStep}
+use Rattle.step.specs.LowerGoalFirst.{ChangesExactly}
 use Rattle.step.specs.Laws.Given as given
 use Rattle.step.specs.Laws.Known as known-laws
+use Rattle.step.specs.Laws.LowerGoalFirst as lower-goal
 use Rattle.step.specs.Laws.SameFillings as fillings
 use Rattle.step.specs.Laws.TheStep as law
 use Rattle.step.specs.Laws.Unique as unique
@@ -53,3 +55,9 @@ module _ (t : Theory) (table : List (List ℕ)) (c facts known : LiteralSet) (fo
     pub some-step : (v : ℕ) (says : Bool) → Goal (asking t table c known) v says
         → (s : Step) × (stepOf (asking t table c known) ≡ step s) × IsStep (asking t table c known) s
     some-step v says g = law.some-step (asking t table c known) between-sound v says g
+
+    -- ---- fewer reasons (E6)
+
+    -- From such a known set the step changes exactly where some candidate of least cost has fewer facts than the step of the order before E6.
+    pub changes-exactly : ChangesExactly (asking t table c known)
+    changes-exactly = lower-goal.changes-exactly (asking t table c known) between-sound

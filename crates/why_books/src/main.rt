@@ -63,11 +63,12 @@ fn refused_books() {
     refused(9);
 }
 
-// Then no byte, and 5,000 bytes of which the first 1,735 are a book.
+// Then no byte, 5,000 bytes of which the first 1,735 are a book, and a book with two reasons of equal cost.
 fn main() {
     orders();
     bench_books();
     refused_books();
     book(b"books/empty.book");
     book(b"books/long.book");
+    book(b"books/fewer-reasons.book");
 }

@@ -2,15 +2,17 @@
 -- superset does. Assumes nothing.
 use mathlib.Core.Path.{_≡_, refl, sym, ap, _∙_}
 use mathlib.Core.Logic.{_≢_, by-cases}
-use Prim.Native.Nat.{ℕ, zero, suc, _+_, _-_, _*_, _^_, _%_, _≤_, _<_}
+use Prim.Native.Nat.{ℕ, zero, suc, _+_, _-_, _*_, _^_, _/_, _%_, _≤_, _<_}
 use native.Mathlib.Nat.{add-mul, mul-le-mul-right, suc-mul, pow-suc, mul-comm, mod-one, mod-eq-of-lt}
 use native.Mathlib.Decide.{ℕ-discrete, decLe}
 use native.Mathlib.Omega.{arith}
 use lib.Arith.{mod-mul}
+use lib.Count.{ones-step}
 use lib.Pow.{pow-pos}
-use Rattle.sets.specs.Sets.{bit, diff, insert, Within}
+use Rattle.sets.specs.Sets.{bit, diff, insert, count, Within}
 use Rattle.sets.specs.Laws.Bits.{bit-le, bit-zero, bit-high, bit-diff, bit-insert-same, bit-insert-other}
 use Rattle.sets.specs.Laws.Code.{shr-bit}
+use Rattle.sets.specs.Laws.Count.{ones-zero}
 use Rattle.items.specs.Weights.{sumBelow, total}
 
 -- ---- sums
@@ -29,6 +31,11 @@ pub sum-add : (n : ℕ) (f g : ℕ → ℕ) → sumBelow n (λ v. f v + g v) ≡
 unfolding sumBelow
 sum-add zero f g = refl
 sum-add (suc n) f g = omega (arith, sum-add n f g)
+
+pub sum-times : (n k : ℕ) (f : ℕ → ℕ) → sumBelow n (λ v. f v * k) ≡ sumBelow n f * k
+unfolding sumBelow
+sum-times zero k f = omega arith
+sum-times (suc n) k f = ap (λ (x : ℕ). x + f n * k) (sum-times n k f) ∙ sym (add-mul (sumBelow n f) (f n) k)
 
 -- each part is at most k
 pub sum-bound : (n k : ℕ) (f : ℕ → ℕ) → ((v : ℕ) → f v ≤ k) → sumBelow n f ≤ n * k
@@ -88,6 +95,18 @@ low-digits (suc n) s =
 
 pub digits-sum : (n s : ℕ) → s < 2 ^ n → sumBelow n (λ v. bit s v * 2 ^ v) ≡ s
 digits-sum n s h = low-digits n s ∙ mod-eq-of-lt h
+
+-- the first number apart
+sum-first : (n : ℕ) (f : ℕ → ℕ) → sumBelow (suc n) f ≡ f 0 + sumBelow n (λ v. f (suc v))
+unfolding sumBelow
+sum-first zero f = omega arith
+sum-first (suc n) f = omega (arith, sum-first n f)
+
+-- the digits of a number add up to how many of them are set
+pub digits-count : (n s : ℕ) → s < 2 ^ n → sumBelow n (λ v. bit s v) ≡ count s
+unfolding sumBelow bit
+digits-count zero s h = let none : s ≡ 0 = omega arith in rw none (sym ones-zero)
+digits-count (suc n) s h = omega (arith, sum-first n (λ v. bit s v), digits-count n (s / 2) (omega (arith, pow-suc 2 n)), ones-step s)
 
 -- ---- weights of sets
 

@@ -12,10 +12,9 @@ use Rattle.sets.specs.Laws.Bits.{member-lt}
 use Rattle.sets.specs.Laws.Subset.{has-true, one-has, subset-within, within-subset, within-le}
 use Rattle.consequence.specs.Laws.Forcing.{contradicts-none, none-contradicts}
 use Rattle.step.specs.Meaning.{Question, goals, againstOn, againstOff, refutes, isCandidate, Candidate, firstOf, candidate, candidatesFor}
-use Rattle.step.specs.Meaning.{candidatesBelow, candidates, allKnown, theStep}
-use Rattle.step.specs.IsStep.{Upto}
+use Rattle.step.specs.Meaning.{candidatesBelow, candidates, allKnown}
 use Rattle.step.specs.Contracts.{Picks}
-use Rattle.step.specs.Laws.Order.{FirstIn, first-in}
+use Rattle.step.specs.Laws.Order.{TotalOrder, FirstIn, first-in}
 
 module _ (q : Question) where
   -- ---- the test
@@ -134,18 +133,20 @@ module _ (q : Question) where
   pub picks-set : (v s : ℕ) → Sized → Picks q v s → s < 2 ^ q .theory .variables
   picks-set v s z x = omega (arith, within-le s (union (q .known-on) (q .known-off)) (x .known), z .known-below)
 
-  -- c is a candidate, and none comes before it.
-  pub record Stepped (c : Candidate) : Type 0 where
+  -- c is a candidate, and none comes before it in an order.
+  pub record Stepped (Le : Candidate → Candidate → Type 0) (c : Candidate) : Type 0 where
     pub listed : Listed c
-    pub first : (v s : ℕ) → Picks q v s → Upto c (candidate q v s)
+    pub first : (v s : ℕ) → Picks q v s → Le c (candidate q v s)
 
-  -- the step is, where all of K with the goal of the lowest variable is one
-  pub the-step : Sized → Picks q (allKnown q .goal) (allKnown q .reasons) → Stepped (theStep q)
-  unfolding theStep allKnown candidate
-  the-step z x = record { listed = from (List·Memᴰ·cases-cons (it .member)); first = λ v s y. it .first (candidate q v s) (List·Memᴰ·tail (there v s y)) }
+  -- the first of all is, where all of K with the goal of the lowest variable is one
+  pub first-stepped : {order : Candidate → Candidate → Bool} {Le : Candidate → Candidate → Type 0} → TotalOrder order Le → Sized
+      → Picks q (allKnown q .goal) (allKnown q .reasons) → Stepped Le (firstOf order (allKnown q) (candidates q))
+  unfolding allKnown candidate
+  first-stepped {order} {Le} o z x =
+      record { listed = from (List·Memᴰ·cases-cons (it .member)); first = λ v s y. it .first (candidate q v s) (List·Memᴰ·tail (there v s y)) }
     where
-      it : FirstIn (allKnown q ∷ candidates q) (firstOf (allKnown q) (candidates q))
-      it = first-in (allKnown q) (candidates q)
+      it : FirstIn Le (allKnown q ∷ candidates q) (firstOf order (allKnown q) (candidates q))
+      it = first-in o (allKnown q) (candidates q)
 
       from : {c : Candidate} → (c ≡ allKnown q) ⊎ List·Memᴰ c (candidates q) → Listed c
       from {c} (inl e) = listed (allKnown q .goal) (allKnown q .reasons) c x e

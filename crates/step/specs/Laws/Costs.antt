@@ -9,18 +9,18 @@ use native.Mathlib.Numerals.{add-one}
 use native.Mathlib.Omega.{arith}
 use lib.ListN.{length, set, length-set}
 use lib.Seq.{getD-set-same, getD-set-other}
-use Rattle.sets.specs.Sets.{bit, has, union, inter, insert, Within, Apart}
+use Rattle.sets.specs.Sets.{bit, has, union, inter, insert, count, Within, Apart}
 use Rattle.sets.specs.Laws.Bits.{bit-le, bit-union, bit-inter}
 use Rattle.sets.specs.Laws.Subset.{has-true, has-false, within-refl, within-insert}
 use Rattle.items.specs.Weights.{sumBelow, total}
 use Rattle.items.specs.Contracts.{weightIn}
-use Rattle.items.specs.Laws.Sums.{sum-same, sum-add, sum-bound, sum-part, digits-sum, total-le, total-insert, total-width}
+use Rattle.items.specs.Laws.Sums.{sum-same, sum-add, sum-times, sum-bound, sum-part, digits-sum, digits-count, total-le, total-insert, total-width}
 use Rattle.literals.specs.Literal.{literalOf}
 use Rattle.records.specs.Limits.{maxChoices}
 use Rattle.problem.specs.Problem.{costOf, literalCost}
 use Rattle.step.specs.Meaning.{setCost}
 use Rattle.step.specs.IsStep.{oppositeOn, oppositeOff}
-use Rattle.step.specs.Contracts.{knownCost, costUnit, literalWeight, itemWeight, Weighed, sumOf}
+use Rattle.step.specs.Contracts.{knownCost, factUnit, costUnit, literalWeight, itemWeight, Weighed, sumOf}
 
 -- ---- the cost of a set
 
@@ -89,30 +89,32 @@ unfolding setCost
 set-bound table n k on off b p =
     sum-bound n k _ (λ v. one-cost k (bit on v) (bit off v) (costOf table v 0) (costOf table v 1) (p .avoids v) (b v 0) (b v 1))
 
--- ---- what known literals weigh: their costs in units, and the set itself
-
--- a sum of costs in units
-sum-units : (n : ℕ) (f : ℕ → ℕ) → sumBelow n (λ v. f v * costUnit) ≡ sumBelow n f * costUnit
-unfolding sumBelow
-sum-units zero f = refl
-sum-units (suc n) f = omega (arith, sum-units n f)
+-- ---- what known literals weigh: their costs and how many they are, in units, and the set itself
 
 module _ (table : List (List ℕ)) (on off : ℕ) where
   -- one item of a set of known literals
-  weigh-one : (d k c p : ℕ) → d ≤ k → k ≤ 1 → d * (c * costUnit + k * p) ≡ d * c * costUnit + d * p
+  weigh-one : (d k c p : ℕ) → d ≤ k → k ≤ 1 → d * (c * costUnit + k * (factUnit + p)) ≡ d * c * costUnit + d * factUnit + d * p
   weigh-one zero k c p h l = omega arith
   weigh-one (suc zero) (suc zero) c p h l = omega arith
   weigh-one (suc zero) zero c p h l = absurd (omega arith)
   weigh-one (suc zero) (suc (suc k)) c p h l = absurd (omega arith)
   weigh-one (suc (suc d)) k c p h l = absurd (omega arith)
 
-  pub weigh-set : (n s : ℕ) → Within s (union on off) → s < 2 ^ n → total (itemWeight table on off) n s ≡ total (knownCost table on off) n s * costUnit + s
+  pub weigh-set : (n s : ℕ) → Within s (union on off) → s < 2 ^ n
+      → total (itemWeight table on off) n s ≡ total (knownCost table on off) n s * costUnit + count s * factUnit + s
   unfolding total itemWeight
   weigh-set n s h l =
       sum-same n _ _
       (λ v i. weigh-one (bit s v) (bit (union on off) v) (knownCost table on off v) (2 ^ v) (h .keeps v) (bit-le (union on off) v))
-      ∙ sum-add n (λ v. bit s v * knownCost table on off v * costUnit) (λ v. bit s v * 2 ^ v)
-      ∙ ap₂ _+_ (sum-units n (λ v. bit s v * knownCost table on off v)) (digits-sum n s l)
+      ∙ sum-add n (λ v. bit s v * knownCost table on off v * costUnit + bit s v * factUnit) (λ v. bit s v * 2 ^ v)
+      ∙ ap₂ _+_ units (digits-sum n s l)
+    where
+      units : sumBelow n (λ v. bit s v * knownCost table on off v * costUnit + bit s v * factUnit)
+          ≡ sumBelow n (λ v. bit s v * knownCost table on off v) * costUnit + count s * factUnit
+      units =
+          sum-add n (λ v. bit s v * knownCost table on off v * costUnit) (λ v. bit s v * factUnit)
+          ∙ ap₂ _+_ (sum-times n costUnit (λ v. bit s v * knownCost table on off v))
+          (sum-times n factUnit (λ v. bit s v) ∙ ap (λ (k : ℕ). k * factUnit) (digits-count n s l))
 
 -- ---- the weights, one by one
 
@@ -141,7 +143,7 @@ module _ {table : List (List ℕ)} {on off : ℕ} where
 -- the known literal is one that says yes, or one that says no, or there is none
 module _ (table : List (List ℕ)) (on off v : ℕ) where
   weight-at : (a b : ℕ) → bit on v ≡ a → bit off v ≡ b
-      → itemWeight table on off v ≡ (a * costOf table v 0 + b * costOf table v 1) * costUnit + max a b * 2 ^ v
+      → itemWeight table on off v ≡ (a * costOf table v 0 + b * costOf table v 1) * costUnit + max a b * (factUnit + 2 ^ v)
   unfolding itemWeight knownCost
   weight-at a b p q = rw (bit-union on off v, p, q) refl
 

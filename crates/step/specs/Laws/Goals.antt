@@ -6,8 +6,9 @@ use mathlib.Core.List.{List}
 use Prim.Native.Nat.{ℕ, _+_, _*_, _^_, _≤_, _<_}
 use native.Mathlib.Decide.{decLt}
 use native.Mathlib.Omega.{arith}
+use lib.Count.{ones-le}
 use lib.ListN.{List·getD-eq-default}
-use Rattle.sets.specs.Sets.{width, bit, has, union, inter, diff, insert, Within, Apart}
+use Rattle.sets.specs.Sets.{width, bit, has, union, inter, diff, insert, count, Within, Apart}
 use Rattle.sets.specs.Laws.Bits.{bit-le, bit-zero, bit-high, bit-union, bit-diff, union-lt, member-lt, bit-inter}
 use Rattle.sets.specs.Laws.Subset.{has-true, has-false, one-has, zero-has, within-refl, within-le}
 use Rattle.items.specs.Weights.{total}
@@ -27,7 +28,7 @@ use Rattle.witnesses.specs.Laws.Questions.{aim-posed}
 use Rattle.witnesses.specs.declared.Aim.{Aim}
 use Rattle.witnesses.specs.declared.State.{State}
 use Rattle.step.specs.Meaning.{Question, setCost, yesGoals, noGoals, goals, reasonsOn, reasonsOff, againstOn, againstOff, candidateCost}
-use Rattle.step.specs.Contracts.{knownCost, costUnit, itemWeight, Weighed, sumOf, keyOf, Small, maskQuestion, aimAt, whole, openGoals, Ready, Picks}
+use Rattle.step.specs.Contracts.{knownCost, factUnit, costUnit, itemWeight, Weighed, sumOf, keyOf, Small, maskQuestion, aimAt, whole, openGoals, Ready, Picks}
 use Rattle.step.specs.Contracts.{GoalAndSet, keyOfPair}
 use Rattle.step.specs.Laws.Known.{cond-not, open-at, sign-of, open-unknown}
 use Rattle.step.specs.Laws.Costs.{set-bound, weigh-set, reasons-cost, opposite-cost}
@@ -103,7 +104,7 @@ module _ {n : ℕ} {ys ns : List ℕ} {table : List (List ℕ)} {c k : LiteralSe
         arith,
         ap (λ (d : ℕ). d * costOf table v 0) on,
         ap (λ (d : ℕ). d * costOf table v 1) off,
-        ap (λ (d : ℕ). d * 2 ^ v) none,
+        ap (λ (d : ℕ). d * (factUnit + 2 ^ v)) none,
       )
 
   module _ {ws : List ℕ} (w : Weighed table (k .yes) (k .no) ws) where
@@ -114,16 +115,16 @@ module _ {n : ℕ} {ys ns : List ℕ} {table : List (List ℕ)} {c k : LiteralSe
         List·getD-eq-default ws 0 {n = v} (omega (arith, w .rows))
         ∙ sym (no-weight v (bit-high maxChoices (union (k .yes) (k .no)) v known-rows (omega arith))))
 
-    -- what a set of known literals weighs: its cost, and itself
+    -- what a set of known literals weighs: its cost, how many they are, and itself
     known-weighs : (s : ℕ) → Within s (union (k .yes) (k .no))
-        → total (weightIn ws) maxChoices s ≡ total (knownCost table (k .yes) (k .no)) n s * costUnit + s
+        → total (weightIn ws) maxChoices s ≡ total (knownCost table (k .yes) (k .no)) n s * costUnit + count s * factUnit + s
     unfolding total
     known-weighs s h =
         let row : s < 2 ^ maxChoices = omega (arith, within-le s (union (k .yes) (k .no)) h, known-rows) in
         let below : s < 2 ^ n = omega (arith, within-le s (union (k .yes) (k .no)) h, known-below) in
         sum-same maxChoices _ _ (λ v i. ap (λ (x : ℕ). bit s v * x) (all-weighed v))
         ∙ weigh-set table (k .yes) (k .no) maxChoices s h row
-        ∙ ap (λ (x : ℕ). x * costUnit + s) (total-width (knownCost table (k .yes) (k .no)) maxChoices n s row below)
+        ∙ ap (λ (x : ℕ). x * costUnit + count s * factUnit + s) (total-width (knownCost table (k .yes) (k .no)) maxChoices n s row below)
 
     pub known-total : sumOf ws ≡ total (weightIn ws) maxChoices (union (k .yes) (k .no))
     known-total =
@@ -179,7 +180,7 @@ module _ {n : ℕ} {ys ns : List ℕ} {table : List (List ℕ)} {c k : LiteralSe
     known-fits =
         let all : ℕ = union (k .yes) (k .no) in
         let small = against-small 0 v o all (within-refl all) in
-        omega (arith, aim-key 0 v o all w (within-refl all), small .cost-small, small .goal-small, small .set-small)
+        omega (arith, aim-key 0 v o all w (within-refl all), small .cost-small, ones-le maxChoices all (small .set-small), small .goal-small, small .set-small)
 
     goal-sought : Sought n ys ns ws (aimOf table c k v)
     goal-sought =

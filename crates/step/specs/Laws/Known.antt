@@ -60,7 +60,7 @@ pub record Forcing (q : Question) : Type 0 where
   pub forces : (f : ℕ) → ModelOf (q .theory) (q .known-on) (q .known-off) f → ModelOf (q .theory) (q .con-on) (q .con-off) f
 
 module _ (q : Question) (z : Forcing q) where
-  known-apart : Apart (q .known-on) (q .known-off)
+  pub known-apart : Apart (q .known-on) (q .known-off)
   known-apart = apart-within (z .known-on) (z .known-off) (z .apart)
 
   pub signed : (v : ℕ) → bit (goals q) v ≡ 1 → has (noGoals q) v ≡ not (has (yesGoals q) v)

@@ -19,7 +19,7 @@ use Rattle.step.specs.Meaning.{asking, yesGoals, noGoals, goals, Candida
 use Rattle.step.specs.IsStep.{Sound, oppositeOn, oppositeOff, Goal, Candidature, Upto, placed, New, IsStep}
 use Rattle.step.specs.Laws.Costs.{cost-width}
 use Rattle.step.specs.Laws.Known.{goal-is}
-use Rattle.step.specs.Laws.Order.{upto-cost}
+use Rattle.step.specs.Laws.Order.{lex-le}
 use Rattle.step.specs.Laws.TheStep.{step-left, step-open, step-is, sound-forcing, goal-unknown, holds-digit, digit-holds}
 use Rattle.step.specs.Laws.Unique.{step-unique}
 
@@ -123,7 +123,7 @@ module _ {t u : Theory} (s : SameChoices t u) (table : List (List ℕ)) (c known
           cost-said = x .cost-said ∙ ap (λ (d : Candidate). d .cost) said;
           forced = forced-same;
           first = first-same;
-          cheapest = λ on off v b k. omega (arith, x .cost-said, ap (λ (d : Candidate). d .cost) said, upto-cost (first-same on off v b k));
+          cheapest = λ on off v b k. omega (arith, x .cost-said, ap (λ (d : Candidate). d .cost) said, lex-le (first-same on off v b k));
           new-yes = new-same s reasons-forcing true (x .new-yes);
           new-no = new-same s reasons-forcing false (x .new-no);
           gained = x .gained;

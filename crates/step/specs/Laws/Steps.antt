@@ -18,6 +18,7 @@ use Rattle.consequence.specs.declared.Consequence.{Consequence}
 use Rattle.consequence.specs.declared.Consequence.the-variants.{NoModel as Contradiction, Forced}
 use Rattle.step.specs.Meaning.{Question, yesGoals, noGoals, goals, goalLiteral, reasonsOn, reasonsOff, candidateCost, Candidate, candidate}
 use Rattle.step.specs.Meaning.{theStep, step, newOn, newOff, stepFrom, stepOf}
+use Rattle.step.specs.IsStep.{Upto}
 use Rattle.step.specs.Contracts.{costUnit, setRoom, goalRoom, keyOf, Small, maskQuestion, openGoals, Ready, ReadyWithGoal, Picks, GoalAndSet}
 use Rattle.step.specs.Contracts.{keyOfPair, LeastFound, Reasoned, Learnt, Asked, Chosen, stepAt, nextOf}
 use Rattle.step.specs.Laws.Order.{upto-key, Decoded, decode}
@@ -62,7 +63,7 @@ module _ {n : ℕ} {ys ns : List ℕ} {table : List (List ℕ)} {c k : LiteralSe
 
   -- ---- the candidate that a key stands for
 
-  pub found : {best : ℕ} → LeastFound n ys ns table c k best → Stepped (maskQuestion n ys ns ch table c k) (theStep (maskQuestion n ys ns ch table c k))
+  pub found : {best : ℕ} → LeastFound n ys ns table c k best → Stepped (maskQuestion n ys ns ch table c k) Upto (theStep (maskQuestion n ys ns ch table c k))
       → IsKeyOfStep (maskQuestion n ys ns ch table c k) best
   unfolding candidate
   found {best} f t =
@@ -153,7 +154,7 @@ module _ {n : ℕ} {ys ns : List ℕ} {ch : ℕ} {table : List (List ℕ)} {c k 
     some-goal = pos-of-member (goals (maskQuestion n ys ns ch table c k)) _ (f .cheapest ch .from .1 .goal)
 
     picked : IsKeyOfStep (maskQuestion n ys ns ch table c k) best
-    picked = found ch (asked-ready a) f (taken (maskQuestion n ys ns ch table c k) (asked-sound a) some-goal)
+    picked = found ch (asked-ready a) f (taken (maskQuestion n ys ns ch table c k) (asked-sound a) (λ z. omega (arith, z, some-goal)))
 
     pub answer-chosen : Chosen n ys ns ch k best
     answer-chosen =

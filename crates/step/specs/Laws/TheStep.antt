@@ -6,8 +6,7 @@ use mathlib.Core.List.{List}
 use Prim.Native.Nat.{ℕ, _≤_, _<_}
 use native.Mathlib.Decide.{ℕ-discrete}
 use native.Mathlib.Omega.{arith}
-use lib.Dec.{eqb}
-use borrow.Author.Tests.{eqb-true, eqb-false, eq-eqb, ne-eqb, not-true}
+use borrow.Author.Tests.{eq-eqb, ne-eqb, not-true}
 use Rattle.sets.specs.Sets.{bit, has, union, diff, Within}
 use Rattle.sets.specs.Laws.Bits.{bit-le, bit-zero, bit-union, bit-diff, pos-of-member, ext}
 use Rattle.sets.specs.Laws.Subset.{one-has, zero-has, within-le, inter-in, has-true, has-false}
@@ -21,23 +20,45 @@ use Rattle.consequence.specs.Laws.Forcing.{Exactly, yes-exactly, no-exactly}
 use Rattle.consequence.specs.Laws.Masks.{theory-assigned, to-theory, of-theory}
 use Rattle.witnesses.specs.Laws.Questions.{opposite}
 use Rattle.step.specs.Meaning.{Question, setCost, yesGoals, goals, goalLiteral, reasonsOn, reasonsOff, candidateCost, Candidate, candidate}
-use Rattle.step.specs.Meaning.{allKnown, theStep, Step, nothingLeft, step, newOn, newOff, stepFrom, stepOf, noGoals}
+use Rattle.step.specs.Meaning.{firstOf, candidates, allKnown, theStep, Step, nothingLeft, step, newOn, newOff, stepFrom, answerWith, stepOf}
+use Rattle.step.specs.Meaning.{noGoals}
 use Rattle.step.specs.Contracts.{Picks, Asked, maskQuestion}
-use Rattle.step.specs.Laws.Order.{upto-cost}
+use Rattle.step.specs.Laws.Order.{TotalOrder, upto-order, lex-le}
 use Rattle.step.specs.IsStep.{Sound, oppositeOn, oppositeOff, Goal, Candidature, Upto, placed, New, Gained, IsStep}
 use Rattle.step.specs.Laws.Known.{Forcing, goals-at, is-goal, against-on, against-off, reasons-union, goal-is, candidature-picks, candidature-cost}
 use Rattle.step.specs.Laws.Known.{all-picked, open-unknown}
-use Rattle.step.specs.Laws.Candidates.{Sized, Stepped, the-step, picks-goal}
+use Rattle.step.specs.Laws.Candidates.{Sized, Stepped, first-stepped, picks-goal}
 
 -- ---- the two answers
 
-pub step-left : (q : Question) → goals q ≡ 0 → stepOf q ≡ nothingLeft
-unfolding stepOf
-step-left q e = rw (eq-eqb (goals q) 0 e, stepOf) refl
+module _ (q : Question) where
+  pub answer-left : (c : Candidate) → goals q ≡ 0 → answerWith q c ≡ nothingLeft
+  unfolding answerWith
+  answer-left c e = rw (eq-eqb (goals q) 0 e, answerWith) refl
 
-pub step-open : (q : Question) → (goals q ≡ 0 → ⊥) → stepOf q ≡ step (stepFrom q (theStep q))
-unfolding stepOf
-step-open q e = rw (ne-eqb (goals q) 0 e, stepOf) refl
+  pub answer-open : (c : Candidate) → (goals q ≡ 0 → ⊥) → answerWith q c ≡ step (stepFrom q c)
+  unfolding answerWith
+  answer-open c e = rw (ne-eqb (goals q) 0 e, answerWith) refl
+
+  -- the step of a candidate is answered where a goal is left
+  pub answer-is : (c : Candidate) (s : Step) → answerWith q c ≡ step s → (goals q ≡ 0 → ⊥) × (stepFrom q c ≡ s)
+  answer-is c s e = (left, let o = answer-open c left in cc)
+    where
+      left : goals q ≡ 0 → ⊥
+      left z = let a = answer-left c z in let n : _≡_ {A = ℕ} 0 1 = cc in omega arith
+
+  pub answer-none : (c : Candidate) → answerWith q c ≡ nothingLeft → goals q ≡ 0
+  answer-none c e =
+      by-cases (ℕ-discrete (goals q) 0) (λ z. z)
+      (λ z. let o = answer-open c z in let n : _≡_ {A = ℕ} 0 1 = cc in absurd (omega arith))
+
+  pub step-left : goals q ≡ 0 → stepOf q ≡ nothingLeft
+  unfolding stepOf
+  step-left e = answer-left (theStep q) e
+
+  pub step-open : (goals q ≡ 0 → ⊥) → stepOf q ≡ step (stepFrom q (theStep q))
+  unfolding stepOf
+  step-open e = answer-open (theStep q) e
 
 -- ---- a literal and the digit of its variable
 
@@ -112,7 +133,7 @@ module _ (q : Question) (z : Sound q) where
         complete = λ v h c o a. omega (arith, bit-diff m known v, x .complete v h c a);
       }
 
-  from-stepped : (c : Candidate) → Stepped q c → IsStep q (stepFrom q c)
+  pub from-stepped : (c : Candidate) → Stepped q Upto c → IsStep q (stepFrom q c)
   unfolding stepFrom goalLiteral newOn newOff reasonsOn reasonsOff candidate candidateCost
   from-stepped c t =
       record {
@@ -123,7 +144,7 @@ module _ (q : Question) (z : Sound q) where
         cost-said = costs;
         forced = λ f m. holds-digit f v b (forced-by on off v b (it .contradicts) f m);
         first = λ a o u y k. first a o u y k;
-        cheapest = λ a o u y k. omega (arith, costs, upto-cost (first a o u y k));
+        cheapest = λ a o u y k. omega (arith, costs, lex-le (first a o u y k));
         new-yes = yes-new;
         new-no = no-new;
         gained = gains b refl;
@@ -189,39 +210,33 @@ module _ (q : Question) (z : Sound q) where
 
   -- ---- the answer
 
-  -- the candidate that is taken, where a goal is left
-  pub taken : 0 < goals q → Stepped q (theStep q)
+  -- the candidate that is taken in an order, where a goal is left
+  pub first-taken : {order : Candidate → Candidate → Bool} {Le : Candidate → Candidate → Type 0} → TotalOrder order Le → (goals q ≡ 0 → ⊥)
+      → Stepped q Le (firstOf order (allKnown q) (candidates q))
   unfolding allKnown candidate
-  taken h = the-step q sound-sized (all-picked q sound-forcing _ (trailing-least (q .theory .variables) (goals q) h (sound-sized .goals-below) .member))
+  first-taken o ne =
+      let h : 0 < goals q = omega arith in
+      first-stepped q o sound-sized
+      (all-picked q sound-forcing _ (trailing-least (q .theory .variables) (goals q) h (sound-sized .goals-below) .member))
+
+  pub taken : (goals q ≡ 0 → ⊥) → Stepped q Upto (theStep q)
+  unfolding theStep
+  taken ne = first-taken upto-order ne
 
   -- the step that is answered is the step
   pub step-is : (s : Step) → stepOf q ≡ step s → IsStep q s
   unfolding stepOf
-  step-is s e = go (eqb (goals q) 0) refl e
-    where
-      go : (b : Bool) → eqb (goals q) 0 ≡ b → elim b [ true ↦ nothingLeft | false ↦ step (stepFrom q (theStep q)) ] ≡ step s → IsStep q s
-      go true d w = let n : _≡_ {A = ℕ} 0 1 = cc in absurd (omega arith)
-      go false d w =
-          let ne : goals q ≡ 0 → ⊥ = eqb-false (goals q) 0 d in
-          let same : stepFrom q (theStep q) ≡ s = cc in
-          subst (IsStep q) same (from-stepped (theStep q) (taken (omega arith)))
+  step-is s e = let w = answer-is q (theStep q) s e in subst (IsStep q) (w .1) (from-stepped (theStep q) (taken (w .0)))
 
   -- nothing is left exactly where K is the consequence
   pub left-known : stepOf q ≡ nothingLeft → (q .known-on ≡ q .con-on) × (q .known-off ≡ q .con-off)
   unfolding stepOf
-  left-known e = go (eqb (goals q) 0) refl e
+  left-known e = let n = answer-none q (theStep q) e in (ext _ _ (λ v. none-open n v .0), ext _ _ (λ v. none-open n v .1))
     where
       none-open : goals q ≡ 0 → (v : ℕ) → (bit (q .known-on) v ≡ bit (q .con-on) v) × (bit (q .known-off) v ≡ bit (q .con-off) v)
       none-open n v =
           let o : bit (goals q) v ≡ 0 = ap (λ (m : ℕ). bit m v) n ∙ bit-zero v in
           (omega (arith, goals-at q v, z .known-on .keeps v), omega (arith, goals-at q v, z .known-off .keeps v))
-
-      go : (b : Bool) → eqb (goals q) 0 ≡ b → elim b [ true ↦ nothingLeft | false ↦ step (stepFrom q (theStep q)) ] ≡ nothingLeft
-          → (q .known-on ≡ q .con-on) × (q .known-off ≡ q .con-off)
-      go true d w =
-          let n : goals q ≡ 0 = eqb-true (goals q) 0 d in
-          (ext _ _ (λ v. none-open n v .0), ext _ _ (λ v. none-open n v .1))
-      go false d w = let n : _≡_ {A = ℕ} 0 1 = cc in absurd (omega arith)
 
   pub known-left : q .known-on ≡ q .con-on → q .known-off ≡ q .con-off → stepOf q ≡ nothingLeft
   known-left x y =
