@@ -3,6 +3,7 @@ mod circuits;
 mod cores;
 mod covers;
 pub mod made;
+mod several;
 mod shapes;
 mod ties;
 
@@ -12,7 +13,7 @@ use samples::edits;
 use samples::random;
 
 // Good books of any shape, the same edited, books with a model planted, with many rules, with a hidden core, with a
-// yes in each of many pairs, with many ties, circuits.
+// yes in each of many pairs, with many ties, with several reasons for each of several goals, circuits.
 pub enum Form {
     Any,
     Edited,
@@ -21,10 +22,12 @@ pub enum Form {
     Core,
     Covers,
     Ties,
+    Several,
     Circuit,
 }
 
-// Up to so many variables and choices and costs up to `cost`; books with a core or with ties have their own.
+// Up to so many variables and choices and costs up to `cost`; books with a core or with ties have their own, those with
+// several reasons their own variables and choices.
 pub struct Kind {
     pub form: Form,
     pub variables: u8,
@@ -67,6 +70,7 @@ pub fn book(kind: Kind, seed: u64) -> Draft {
         Form::Core => cores::made(seed),
         Form::Covers => covers::made(seed, kind.variables, kind.choices, kind.cost),
         Form::Ties => ties::made(seed),
+        Form::Several => several::made(seed, kind.cost),
         Form::Circuit => circuits::made(seed, kind.variables, kind.choices, kind.cost),
     }
 }

@@ -101,6 +101,16 @@ fn walked() {
     report::all(b"books of up to 10 variables, walked:\n", t);
 }
 
+// Steps and logs of books in which reasons of different sizes often cost the same.
+fn walked_several() {
+    let like = made_books::of_form(Form::Several, 8, 8, 3);
+    let t = groups::each(tally::none(), Task::Walked, 3000, like, 618033988749894848);
+    report::all(
+        b"books with several reasons for each of several goals, walked:\n",
+        t,
+    );
+}
+
 // Steps and logs of larger books, with small costs and with any.
 fn walked_large() {
     let small = made_books::of_form(Form::Circuit, 20, 16, 3);
@@ -116,5 +126,6 @@ fn main() {
     without_literals();
     many_models();
     walked();
+    walked_several();
     walked_large();
 }
