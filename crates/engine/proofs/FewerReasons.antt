@@ -5,8 +5,6 @@ use Prim.Native.Nat.{ℕ}
 use Rattle.literals.specs.declared.LiteralSet.{LiteralSet}
 use Rattle.records.specs.Format.{Read, value, refused, OrderBook, readBook}
 use Rattle.book.proofs.WellFormed.{well-formed}
-use Rattle.problem.specs.Problem.{Problem, problemOf}
-use Rattle.problem.specs.Proper.{ProperProblem}
 use Rattle.problem.proofs.BookLaws.{proper-book}
 use Rattle.step.specs.Theorems.{changes-exactly}
 use Rattle.log.specs.Laws.OneStep.{choices-below, forced}

@@ -142,7 +142,8 @@ fn propagate(p: MaskedProblem) -> ConsequenceAnswer
 }
 
 // The next step from a known set: the variables known to be yes, and those known to be no.
-// Ruled out: a step that is a contradiction but not the cheapest; "nothing left" while a choice of the consequence is unknown.
+// Ruled out: a step that is a contradiction but not the cheapest; of two reasons of equal cost the one with more facts; "nothing
+// left" while a choice of the consequence is unknown.
 pub fn next_step(s: &[u8], known_yes: u64, known_no: u64) -> StepAnswer
     ensures { λ r. ⌜ StepCall (now (s .entry)) «known_yes» «known_no» r ⌝ }
 {

@@ -45,15 +45,23 @@ goalRoom = maxChoices
 abbrev pub setRoom : ℕ
 setRoom = 2 ^ maxChoices
 
--- What one fact adds to a key, and what one unit of cost does.
+-- What is added to a key by one of a goal's variable, by one fact, and by one unit of cost.
+abbrev pub goalUnit : ℕ
+goalUnit = setRoom
+
 abbrev pub factUnit : ℕ
-factUnit = goalRoom * setRoom
+factUnit = goalRoom * goalUnit
 
 abbrev pub costUnit : ℕ
 costUnit = countRoom * factUnit
 
+-- Part of a key: a cost, a number of facts, and what comes after them.
+abbrev pub keyPart : ℕ → ℕ → ℕ → ℕ
+keyPart cost facts rest = cost * costUnit + facts * factUnit + rest
+
+-- The key of a candidate: its cost, the number of its facts, its goal's variable, and its set (`upto-key`, Laws/Order: their order is that of the candidates).
 abbrev pub keyOf : ℕ → ℕ → ℕ → ℕ
-keyOf cost goal s = cost * costUnit + count s * factUnit + goal * setRoom + s
+keyOf cost goal s = keyPart cost (count s) (goal * goalUnit + s)
 
 -- There is room for it in a key, which is then a number of 64 bits.
 pub record Small (cost goal s : ℕ) : Type 0 where
@@ -65,7 +73,7 @@ pub record Small (cost goal s : ℕ) : Type 0 where
 
 -- What a literal over variable v + 1 of this cost adds to a key: its cost, one fact, and its variable in the set.
 abbrev pub literalWeight : ℕ → ℕ → ℕ
-literalWeight cost v = cost * costUnit + factUnit + 2 ^ v
+literalWeight cost v = keyPart cost 1 (2 ^ v)
 
 -- What the known literal over variable v + 1 adds to a key, and 0 where there is none.
 unfoldable pub itemWeight : List (List ℕ) → ℕ → ℕ → ℕ → ℕ
@@ -93,7 +101,7 @@ aimAt table k v says =
       says = says;
       on = k .yes;
       off = k .no;
-      key = literalCost table (literalOf v (not says)) * costUnit + v * setRoom;
+      key = keyPart (literalCost table (literalOf v (not says))) 0 (v * goalUnit);
     }
 
 abbrev pub whole : Aim → Part
@@ -197,7 +205,7 @@ pub record Chosen (n : ℕ) (ys ns : List ℕ) (ch : ℕ) (k : LiteralSet) (best
 abbrev pub stepAt : ℕ → List ℕ → List ℕ → ℕ → LiteralSet → LiteralSet → ℕ → Step
 stepAt n ys ns ch c k best =
     stepFrom (maskQuestion n ys ns ch [] c k)
-    (record { cost = best / costUnit; goal = best / setRoom % goalRoom; reasons = best % setRoom })
+    (record { cost = best / costUnit; goal = best / goalUnit % goalRoom; reasons = best % setRoom })
 
 -- The answer for each case.
 abbrev pub nextOf : Answer → Next

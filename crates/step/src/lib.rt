@@ -6,7 +6,7 @@ ghost use Rattle.literals.specs.Literal.{variable, literalOf};
 ghost use Rattle.records.specs.Limits.{maxChoices};
 ghost use Rattle.problem.specs.Problem.{literalCost};
 ghost use Rattle.step.specs.Meaning.{step, stepOf};
-ghost use Rattle.step.specs.Contracts.{literalWeight, itemWeight, Weighed, sumOf, maskQuestion, aimAt, whole, openGoals, Ready, ReadyWithGoal};
+ghost use Rattle.step.specs.Contracts.{factUnit, keyPart, literalWeight, itemWeight, Weighed, sumOf, maskQuestion, aimAt, whole, openGoals, Ready, ReadyWithGoal};
 ghost use Rattle.step.specs.Contracts.{LeastUnder, LeastFound, Reasoned, Learnt, Asked, Chosen, stepAt, nextOf};
 use book::Book;
 use consequence::Consequence;
@@ -35,8 +35,10 @@ const VARIABLES: u64 = Book::MAX_CHOICES as u64;
 
 const COUNTS: u64 = VARIABLES + 1;
 
-// What one fact adds to a key, and what one unit of cost does.
-const FACT_UNIT: u64 = VARIABLES * SETS;
+// What is added to a key by one of a goal's variable, by one fact, and by one unit of cost.
+const GOAL_UNIT: u64 = SETS;
+
+const FACT_UNIT: u64 = VARIABLES * GOAL_UNIT;
 
 const COST_UNIT: u64 = COUNTS * FACT_UNIT;
 
@@ -71,13 +73,22 @@ fn price(costs: [[u16; 2]; Book::MAX_CHOICES], v: u32, says: bool) -> u16
     cost_of(costs, literal(v, says))
 }
 
+// Part of a key: a cost, a number of facts, and what comes after them.
+fn key_part(cost: u16, facts: u64, rest: u64) -> u64
+    requires { ⌜ facts ≤ 1 ⌝ }
+    requires { ⌜ rest < factUnit ⌝ }
+    ensures { λ r. ⌜ r ≡ keyPart cost facts rest ⌝ }
+{
+    cost as u64 * COST_UNIT + facts * FACT_UNIT + rest
+}
+
 // What a literal over variable v + 1 adds to a key.
 fn literal_weight(costs: [[u16; 2]; Book::MAX_CHOICES], v: u32, says: bool) -> u64
     requires { ⌜ v < maxChoices ⌝ }
     ensures { λ r. ⌜ r ≡ literalWeight (literalCost costs (literalOf v says)) v ⌝ }
 {
-    let cost = price(costs, v, says) as u64;
-    cost * COST_UNIT + FACT_UNIT + sets::single(v)
+    let cost = price(costs, v, says);
+    key_part(cost, 1, sets::single(v))
 }
 
 // What the known literal over variable v + 1 adds to a key, and 0 where there is none.
@@ -128,8 +139,8 @@ fn aim_at(costs: [[u16; 2]; Book::MAX_CHOICES], known: LiteralSet, v: u32, says:
     requires { ⌜ v < maxChoices ⌝ }
     ensures { λ r. ⌜ r ≡ aimAt costs known v says ⌝ }
 {
-    let cost = price(costs, v, !says) as u64;
-    let key = cost * COST_UNIT + v as u64 * SETS;
+    let cost = price(costs, v, !says);
+    let key = key_part(cost, 0, v as u64 * GOAL_UNIT);
     Aim {
         goal: v,
         says: says,
@@ -257,7 +268,7 @@ fn step_of(
     ensures { λ r. ⌜ r ≡ nextOf (step (stepAt n (now (yes .entry)) (now (no .entry)) choices consequence known best)) ⌝ }
 {
     let set = best % SETS;
-    let v = (best / SETS % VARIABLES) as u32;
+    let v = (best / GOAL_UNIT % VARIABLES) as u32;
     let cost = (best / COST_UNIT) as u16;
     let yes_goals = sets::difference(consequence.yes, known.yes);
     let goal = literal(v, sets::has(yes_goals, v));

@@ -8,5 +8,5 @@ use Rattle.step.proofs.literal_weight.Tie as tie
 
 pub literal-weight-spec : {M : Type 1} → statement M
 literal-weight-spec =
-    tie.close (tie.spec (λ c κs. search needs) (λ c. search needs) (λ c. search needs) (λ c. search needs) (λ c κs. search needs)
-    (λ c. omega (arith, c .single .ensures, single-lt maxChoices (c .before .before .args .v) (omega arith))) (λ c. search needs))
+    tie.close (tie.spec (λ c κs. search needs) (λ c κs. search needs)
+    (λ c κs. (omega arith, omega (arith, c .single .ensures, single-lt maxChoices (c .before .before .args .v) (omega arith)))) (λ c. search needs))

@@ -14,7 +14,7 @@ use Rattle.sets.specs.Sets.{count}
 use Rattle.records.specs.Limits.{maxChoices}
 use Rattle.step.specs.Meaning.{Candidate, before, earlier, firstOf}
 use Rattle.step.specs.IsStep.{Lex, Upto}
-use Rattle.step.specs.Contracts.{costUnit, countRoom, setRoom, goalRoom, keyOf, Small}
+use Rattle.step.specs.Contracts.{goalUnit, costUnit, countRoom, setRoom, goalRoom, keyOf, Small}
 
 -- ---- the order as facts
 
@@ -163,7 +163,7 @@ upto-key c d x y (inr (p, inr (q, inr (r, h)))) = omega arith
 -- what a key says
 pub record Decoded (r cost goal s : ℕ) : Type 0 where
   pub cost-of : r / costUnit ≡ cost
-  pub goal-of : r / setRoom % goalRoom ≡ goal
+  pub goal-of : r / goalUnit % goalRoom ≡ goal
   pub set-of : r % setRoom ≡ s
 
 pub decode : (cost goal s : ℕ) → Small cost goal s → Decoded (keyOf cost goal s) cost goal s

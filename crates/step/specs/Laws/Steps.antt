@@ -19,7 +19,7 @@ use Rattle.consequence.specs.declared.Consequence.the-variants.{NoModel as Cont
 use Rattle.step.specs.Meaning.{Question, yesGoals, noGoals, goals, goalLiteral, reasonsOn, reasonsOff, candidateCost, Candidate, candidate}
 use Rattle.step.specs.Meaning.{theStep, step, newOn, newOff, stepFrom, stepOf}
 use Rattle.step.specs.IsStep.{Upto}
-use Rattle.step.specs.Contracts.{costUnit, setRoom, goalRoom, keyOf, Small, maskQuestion, openGoals, Ready, ReadyWithGoal, Picks, GoalAndSet}
+use Rattle.step.specs.Contracts.{goalUnit, costUnit, setRoom, goalRoom, keyOf, Small, maskQuestion, openGoals, Ready, ReadyWithGoal, Picks, GoalAndSet}
 use Rattle.step.specs.Contracts.{keyOfPair, LeastFound, Reasoned, Learnt, Asked, Chosen, stepAt, nextOf}
 use Rattle.step.specs.Laws.Order.{upto-key, Decoded, decode}
 use Rattle.step.specs.Laws.Given.{model-fewer}
@@ -30,9 +30,9 @@ use Rattle.step.specs.declared.Next.{Next}
 
 -- The candidate that a key stands for is the step.
 pub record IsKeyOfStep (q : Question) (best : ℕ) : Type 0 where
-  pub picks : Picks q (best / setRoom % goalRoom) (best % setRoom)
-  pub taken : theStep q ≡ candidate q (best / setRoom % goalRoom) (best % setRoom)
-  pub costs : candidateCost q (best / setRoom % goalRoom) (best % setRoom) ≡ best / costUnit
+  pub picks : Picks q (best / goalUnit % goalRoom) (best % setRoom)
+  pub taken : theStep q ≡ candidate q (best / goalUnit % goalRoom) (best % setRoom)
+  pub costs : candidateCost q (best / goalUnit % goalRoom) (best % setRoom) ≡ best / costUnit
 
 module _ {n : ℕ} {ys ns : List ℕ} {ch : ℕ} {table : List (List ℕ)} {c k : LiteralSet} where
   -- ---- what is asked
@@ -171,9 +171,9 @@ module _ {n : ℕ} {ys ns : List ℕ} {ch : ℕ} {table : List (List ℕ)} {c k 
         q : Question
         q = maskQuestion n ys ns ch table c k
 
-        same : candidate q (best / setRoom % goalRoom) (best % setRoom)
-            ≡ record { cost = best / costUnit; goal = best / setRoom % goalRoom; reasons = best % setRoom }
-        same = λ i. record { cost = picked .costs i; goal = best / setRoom % goalRoom; reasons = best % setRoom }
+        same : candidate q (best / goalUnit % goalRoom) (best % setRoom)
+            ≡ record { cost = best / costUnit; goal = best / goalUnit % goalRoom; reasons = best % setRoom }
+        same = λ i. record { cost = picked .costs i; goal = best / goalUnit % goalRoom; reasons = best % setRoom }
 
         theirs : stepOf q ≡ step (stepAt n ys ns ch c k best)
         theirs =
@@ -187,15 +187,15 @@ module _ {n : ℕ} {ys ns : List ℕ} {ch best : ℕ} {k : LiteralSet} (x : Chos
   chosen-reasons s t p q = rw (p, q) (reasoned-within (inter-in s (k .yes)) (inter-in t (k .no)) (x .known))
 
   pub chosen-step : (c : LiteralSet) {d a b : ℕ} {says : Bool} {l : Literal} {new : LiteralSet} → d ≡ diff (c .yes) (k .yes)
-      → says ≡ has d (best / setRoom % goalRoom) → l ≡ literalOf (best / setRoom % goalRoom) says → a ≡ inter (best % setRoom) (k .yes)
+      → says ≡ has d (best / goalUnit % goalRoom) → l ≡ literalOf (best / goalUnit % goalRoom) says → a ≡ inter (best % setRoom) (k .yes)
       → b ≡ inter (best % setRoom) (k .no) → Learnt n ys ns ch (record { yes = a; no = b }) k new
       → Next.Step l (record { yes = a; no = b }) new (best / costUnit) ≡ nextOf (step (stepAt n ys ns ch c k best))
   unfolding stepFrom goalLiteral reasonsOn reasonsOff newOn newOff yesGoals
   chosen-step c {d} {a} {b} {says} {l} {new} p q e s t w =
       λ i. Next.Step (goal-is i) (record { yes = s i; no = t i }) (record { yes = yes-is i; no = no-is i }) (best / costUnit)
     where
-      goal-is : l ≡ literalOf (best / setRoom % goalRoom) (has (diff (c .yes) (k .yes)) (best / setRoom % goalRoom))
-      goal-is = e ∙ ap (literalOf (best / setRoom % goalRoom)) (q ∙ ap (λ (m : ℕ). has m (best / setRoom % goalRoom)) p)
+      goal-is : l ≡ literalOf (best / goalUnit % goalRoom) (has (diff (c .yes) (k .yes)) (best / goalUnit % goalRoom))
+      goal-is = e ∙ ap (literalOf (best / goalUnit % goalRoom)) (q ∙ ap (λ (m : ℕ). has m (best / goalUnit % goalRoom)) p)
 
       yes-is : new .yes ≡ diff (yesForced (maskTheory n ys ns ch) (inter (best % setRoom) (k .yes)) (inter (best % setRoom) (k .no))) (k .yes)
       yes-is = w .yes-new ∙ ap₂ (λ (u : ℕ) (v : ℕ). diff (yesForced (maskTheory n ys ns ch) u v) (k .yes)) s t
