@@ -28,8 +28,8 @@ use Rattle.witnesses.specs.Laws.Questions.{aim-posed}
 use Rattle.witnesses.specs.declared.Aim.{Aim}
 use Rattle.witnesses.specs.declared.State.{State}
 use Rattle.step.specs.Meaning.{Question, setCost, yesGoals, noGoals, goals, reasonsOn, reasonsOff, againstOn, againstOff, candidateCost}
-use Rattle.step.specs.Contracts.{knownCost, factUnit, costUnit, itemWeight, Weighed, sumOf, keyOf, Small, maskQuestion, aimAt, whole, openGoals, Ready, Picks}
-use Rattle.step.specs.Contracts.{GoalAndSet, keyOfPair}
+use Rattle.step.specs.Contracts.{knownCost, factUnit, costUnit, itemWeight, Weighed, sumOf, keyOf, Small, maskQuestion, aimAt, whole, openGoals, Ready}
+use Rattle.step.specs.Contracts.{Picks, GoalAndSet, keyOfPair}
 use Rattle.step.specs.Laws.Known.{cond-not, open-at, sign-of, open-unknown}
 use Rattle.step.specs.Laws.Costs.{set-bound, weigh-set, reasons-cost, opposite-cost}
 
