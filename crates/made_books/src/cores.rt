@@ -2,6 +2,8 @@
 // of their fillings is tried, and the rules over the choices leave many of those open. A search that goes back one try at
 // a time refutes the core again for each filling of the choices; one that jumps back must not jump over a choice that
 // matters.
+use crate::drawn;
+use crate::drawn::Rule;
 use crate::made;
 use samples::build;
 use samples::build::Draft;
@@ -13,31 +15,21 @@ const OPEN_RULES: u8 = 5;
 
 const CORE_RULES: u8 = 8;
 
-// A number from `first` on, one of `count`, drawn from a state.
-fn one_of(seed: u64, first: u8, count: u8) -> u8 {
-    std::num::wrapping_add_u8(first, random::byte_below(seed, count))
-}
-
 // A rule over three choices: one of 1 to 3, one of 4 and 5, one of 6 and 7.
-fn open_rule(d: Draft) -> Draft {
+pub fn open_rule(d: Draft) -> Draft {
     let a = random::next(d.seed);
     let b = random::next(a);
     let c = random::next(b);
-    let low = made::signed(a >> 8, one_of(a, 1, 3));
-    let middle = made::signed(b >> 8, one_of(b, 4, 2));
-    let high = made::signed(c >> 8, one_of(c, 6, 2));
+    let low = made::signed(a >> 8, made::one_of(a, 1, 3));
+    let middle = made::signed(b >> 8, made::one_of(b, 4, 2));
+    let high = made::signed(c >> 8, made::one_of(c, 6, 2));
     let mut made = build::put(build::put2(build::rule(d, 3), low, middle), high);
     made.seed = c;
     made
 }
 
 fn open_rules(d: Draft) -> Draft {
-    let rules = OPEN_RULES;
-    let mut made = d;
-    for i in 0..rules {
-        made = open_rule(made);
-    }
-    made
+    drawn::rules(d, Rule::Open, OPEN_RULES)
 }
 
 // A rule for each filling of the helpers 8, 9 and 10, which that filling breaks where `switch` is yes.
@@ -69,8 +61,8 @@ fn rules(d: Draft, switch: u8) -> Draft {
 fn facts(d: Draft) -> Draft {
     let a = random::next(d.seed);
     let b = random::next(a);
-    let low = made::signed(a >> 8, one_of(a, 1, 3));
-    let high = made::signed(b >> 8, one_of(b, 4, 4));
+    let low = made::signed(a >> 8, made::one_of(a, 1, 3));
+    let high = made::signed(b >> 8, made::one_of(b, 4, 4));
     let mut made = d;
     if random::byte(a >> 4) < 128 {
         made = build::fact(made, low);
@@ -89,5 +81,5 @@ pub fn made(seed: u64) -> Draft {
     let mut d = build::header(build::empty(), variables, CHOICES, count);
     d.seed = random::next(seed);
     let d = build::costs(d, CHOICES);
-    build::end(facts(rules(d, one_of(seed, 1, CHOICES))))
+    build::end(facts(rules(d, made::one_of(seed, 1, CHOICES))))
 }

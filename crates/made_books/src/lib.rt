@@ -2,6 +2,7 @@
 mod circuits;
 mod cores;
 mod covers;
+mod drawn;
 pub mod made;
 mod several;
 mod shapes;

@@ -21,6 +21,11 @@ pub struct Shape {
     pub filling: u64,
 }
 
+// A number from `first` on, one of `count`, drawn from a state.
+pub fn one_of(seed: u64, first: u8, count: u8) -> u8 {
+    std::num::wrapping_add_u8(first, random::byte_below(seed, count))
+}
+
 // The literal over `v`: yes where a number is odd.
 pub fn signed(n: u64, v: u8) -> u8 {
     if n % 2 == 1 { v } else { build::negated(v) }

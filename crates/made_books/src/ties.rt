@@ -1,5 +1,7 @@
 // Books with many ties: seven facts guard, two to a rule, rules over two helpers that spare only choice 8. Several of the
 // facts are needed to force it, many sets of them will do, and costs are 1 or 2.
+use crate::drawn;
+use crate::drawn::Rule;
 use crate::made;
 use samples::build;
 use samples::build::Draft;
@@ -10,7 +12,7 @@ const CHOICES: u8 = 8;
 const RULES: u8 = 12;
 
 // A rule that two facts switch on: choice 8, or one or two literals over the helpers.
-fn guarded_rule(d: Draft) -> Draft {
+pub fn guarded_rule(d: Draft) -> Draft {
     let a = random::next(d.seed);
     let b = random::next(a);
     let low = std::num::wrapping_add_u8(random::byte_below(a, 3), 1);
@@ -33,19 +35,11 @@ fn guarded_rule(d: Draft) -> Draft {
     made
 }
 
-fn guarded_rules(d: Draft) -> Draft {
-    let rules = RULES;
-    let mut made = d;
-    for i in 0..rules {
-        made = guarded_rule(made);
-    }
-    made
-}
-
 // A book of ten variables, made up from a seed.
 pub fn made(seed: u64) -> Draft {
     let mut d = build::header(build::empty(), 10, CHOICES, RULES);
     d.seed = random::next(seed);
     let d = made::costs(d, CHOICES, 2);
-    build::end(build::first_facts(guarded_rules(d), 7, true))
+    let d = drawn::rules(d, Rule::Guarded, RULES);
+    build::end(build::first_facts(d, 7, true))
 }

@@ -49,38 +49,31 @@ pub fn either() -> Draft {
     )
 }
 
+// A book in two parts: its header and costs, and the rest.
+fn in_two(costs: &[u8], rest: &[u8]) -> Draft {
+    build::bytes(build::bytes(build::empty(), costs), rest)
+}
+
 // U = V = 4, yes costs 1, 2, 3, 4, no costs 5, 6, 7, 8, rules (-1, -2, 4) and (-3, 4), facts 1, 2 and 3.
 pub fn fewer_facts() -> Draft {
-    let costs = build::bytes(
-        build::empty(),
+    in_two(
         b"HD\x04\x04\x02CS\x01\x00\x01\x00\x05CS\x02\x00\x02\x00\x06CS\x03\x00\x03\x00\x07CS\x04\x00\x04\x00\x08",
-    );
-    build::bytes(
-        costs,
         b"RL\x03\xff\xfe\x04RL\x02\xfd\x04FA\x01FA\x02FA\x03EN",
     )
 }
 
 // The same with a choice 5 of 4's costs, and rule (-3, 5) instead of (-3, 4).
 pub fn higher_goal() -> Draft {
-    let costs = build::bytes(
-        build::empty(),
+    in_two(
         b"HD\x05\x05\x02CS\x01\x00\x01\x00\x05CS\x02\x00\x02\x00\x06CS\x03\x00\x03\x00\x07CS\x04\x00\x04\x00\x08CS\x05\x00\x04\x00\x08",
-    );
-    build::bytes(
-        costs,
         b"RL\x03\xff\xfe\x04RL\x02\xfd\x05FA\x01FA\x02FA\x03EN",
     )
 }
 
 // Book P, with its own costs.
 pub fn book_p() -> Draft {
-    let costs = build::bytes(
-        build::empty(),
+    in_two(
         b"HD\x05\x04\x03CS\x01\x00\x05\x00\x09CS\x02\x00\x02\x00\x03CS\x03\x00\x04\x00\x01CS\x04\x00\x07\x00\x06",
-    );
-    build::bytes(
-        costs,
         b"RL\x02\xff\x05RL\x02\x02\xfbRL\x03\xfe\xfd\x04FA\x01FA\x03EN",
     )
 }
