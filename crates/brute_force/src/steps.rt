@@ -16,7 +16,7 @@ pub struct Candidate {
     pub tied: bool,
 }
 
-// The best so far, and the best in the order before E6, to which the number of facts is nothing.
+// The best so far, and the best in the order before E6, which leaves out the number of facts.
 struct Best {
     now: Candidate,
     before: Candidate,
@@ -102,7 +102,7 @@ fn goes_before(a: Candidate, b: Candidate) -> bool {
     went_before(a, b)
 }
 
-// The better of a candidate and the best so far, and whether the two cost the same.
+// The better of a candidate and the best so far, which it goes before or not, and whether the two cost the same.
 fn better(made: Candidate, best: Candidate, goes: bool) -> Candidate {
     if !best.found {
         return made;

@@ -11,7 +11,7 @@ use Rattle.step.specs.IsStep.{Between}
 use Rattle.step.specs.LowerGoalFirst.{ChangesExactly}
 
 -- Of a proper book with a model and a known set between the given facts and the consequence: the step changes exactly where some candidate of least cost has
--- fewer facts than the step of the order before E6. `step-changes` shows it for any bytes.
+-- fewer facts than the step of the order before E6, and both cost the same. `step-changes` shows it for any bytes.
 abbrev pub StepChanges : Read OrderBook → LiteralSet → Type 0
 StepChanges (refused number place) known = Unit {0}
 StepChanges (value b end) known =

@@ -23,7 +23,7 @@ use Rattle.items.specs.Weights.{sumBelow}
 use Rattle.step.specs.Meaning.{Question, questionOf, setCost, yesGoals, noGoals, goals, goalLiteral, reasonsOn, reasonsOff, againstOn, againstOff, refutes}
 use Rattle.step.specs.Meaning.{isCandidate, candidateCost, before, earlier, firstOf, candidate, candidatesFor, candidatesBelow, candidates, allKnown}
 use Rattle.step.specs.Meaning.{theStep, Answer, newOn, newOff, stepFrom, answerWith, stepOf}
-use Rattle.step.specs.LowerGoalFirst.{lowerGoalFirst, lowerGoal, lowerGoalStep}
+use Rattle.step.specs.LowerGoalFirst.{lowerGoalFirst, lowerGoalCandidate, lowerGoalStep}
 use Rattle.log_form.specs.Format.{listBytes, twoBytes, fourBytes, recordBytes, recordsBytes, okBytes, logBytes}
 use Rattle.log.specs.Meaning.{costsWritten, withNew, runFrom, runOf, runFor}
 use Rattle.engine.specs.Calls.{withModel, firstModel, modelAnswer, consequenceAnswer, between, stepSays, stepFor, stepAnswer, logOutcome}
@@ -195,5 +195,5 @@ fewer-steps-agree = refl
 
 pub lower-goal-steps-agree : map (λ (r : KnownRow). from (r .bytes) (r .yes) (r .no) (lowerGoalAnswer (r .yes) (r .no) (readBook (r .bytes)))) lowerGoalSteps
     ≡ lowerGoalSteps
-unfolding lowerGoalSteps lowerGoalAnswer lowerGoalStep lowerGoal lowerGoalFirst computed readAndPosed order-fewer-facts order-higher-goal stepSays withModel
+unfolding lowerGoalSteps lowerGoalAnswer lowerGoalStep lowerGoalCandidate lowerGoalFirst computed readAndPosed order-fewer-facts order-higher-goal stepSays withModel
 lower-goal-steps-agree = refl

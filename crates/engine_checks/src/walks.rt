@@ -52,7 +52,7 @@ pub fn one_step(t: Tally, s: &[u8], known: Literals, due: Taken) -> Tally {
     tally::seen(t, tally::CHANGED_STEPS, due.changed)
 }
 
-// One more book with a step that was another in the order before E6, where there is one more such step than before it.
+// One more book with a step that was another in the order before E6, where there are more such steps than before it.
 pub fn seen_changed(before: Tally, t: Tally) -> Tally {
     let changed = t.seen[tally::CHANGED_STEPS] != before.seen[tally::CHANGED_STEPS];
     tally::seen(t, tally::CHANGED_BOOKS, changed)

@@ -5,7 +5,8 @@ use crate::several;
 use crate::ties;
 use samples::build::Draft;
 
-// Over the choices of a book with a core, over two of so many variables, of a book with ties, of one with several reasons.
+// What is drawn: a rule over the choices of a book with a core, one over two of so many variables, one of a book with ties,
+// one of a book with several reasons.
 pub enum Rule {
     Open,
     Pair(u8),

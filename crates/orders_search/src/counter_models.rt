@@ -35,12 +35,17 @@ fn refuses(t: Tally, letter: u8, number: u8, place: usize) -> Tally {
     tally::noted(t, tally::MODEL, agrees)
 }
 
-// Orders b, c, d, g, h and i, and the rule (1, 2), whose first model says no of 1.
+// Orders b, c, d, g, h and i, the rule (1, 2), whose first model says no of 1, and the two of E6.
 fn first_models(t: Tally) -> Tally {
     let t = book(book(t, counter::order(b'b'), 0), counter::book_p(), 31);
     let t = book(book(t, counter::order(b'd'), 1), counter::order(b'g'), 0);
     let t = book(book(t, counter::order(b'h'), 1), counter::order(b'i'), 7);
-    book(t, counter::either(), 2)
+    let t = book(t, counter::either(), 2);
+    book(
+        book(t, counter::fewer_facts(), 15),
+        counter::higher_goal(),
+        31,
+    )
 }
 
 // All of them, with orders a, e, f and j.

@@ -45,7 +45,7 @@ goalRoom = maxChoices
 abbrev pub setRoom : ℕ
 setRoom = 2 ^ maxChoices
 
--- What is added to a key by one of a goal's variable, by one fact, and by one unit of cost.
+-- What a key gains for a goal's variable one higher, for one fact more, and for one unit of cost more.
 abbrev pub goalUnit : ℕ
 goalUnit = setRoom
 
@@ -59,7 +59,7 @@ costUnit = countRoom * factUnit
 abbrev pub keyPart : ℕ → ℕ → ℕ → ℕ
 keyPart cost facts rest = cost * costUnit + facts * factUnit + rest
 
--- The key of a candidate: its cost, the number of its facts, its goal's variable, and its set (`upto-key`, Laws/Order: their order is that of the candidates).
+-- The key of a candidate: its cost, the number of its facts, its goal's variable, and its set. Of two candidates the first in the order has the lesser key.
 abbrev pub keyOf : ℕ → ℕ → ℕ → ℕ
 keyOf cost goal s = keyPart cost (count s) (goal * goalUnit + s)
 

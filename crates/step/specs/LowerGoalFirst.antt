@@ -1,4 +1,4 @@
--- The order of the candidates before E6, and what E6 changes (document 02). That order is used for nothing else.
+-- The order of the candidates before E6, and what E6 changes (document 02). Only that claim and its worked rows (engine/specs/Orders) use that order.
 use mathlib.Core.Path.{_≡_}
 use mathlib.Core.Bool.{Bool}
 use Prim.Native.Nat.{ℕ, _+_, _≤_, _<_}
@@ -11,12 +11,13 @@ use Rattle.step.specs.IsStep.{Candidature, placed}
 unfoldable pub lowerGoalFirst : Candidate → Candidate → Bool
 lowerGoalFirst a b = before (a .cost) (b .cost) (before (a .goal) (b .goal) (ltb (a .reasons) (b .reasons)))
 
--- The first of the candidates in that order, and the answer from K with it.
-unfoldable pub lowerGoal : Question → Candidate
-lowerGoal q = firstOf lowerGoalFirst (allKnown q) (candidates q)
+-- The first of the candidates in that order.
+unfoldable pub lowerGoalCandidate : Question → Candidate
+lowerGoalCandidate q = firstOf lowerGoalFirst (allKnown q) (candidates q)
 
+-- The answer from K with it.
 unfoldable pub lowerGoalStep : Question → Answer
-lowerGoalStep q = answerWith q (lowerGoal q)
+lowerGoalStep q = answerWith q (lowerGoalCandidate q)
 
 -- Some candidate of least cost has fewer facts than a step.
 pub record FewerFacts (q : Question) (s : Step) : Type 0 where
@@ -40,8 +41,8 @@ SameCost nothingLeft (step s) = ⊥
 SameCost (step s) nothingLeft = ⊥
 SameCost (step s) (step r) = s .cost ≡ r .cost
 
--- From one known set the step, with its goal, reasons, new literals and cost, is not that of the order before E6 exactly where some candidate of least cost
--- has fewer facts than that one; the cost is the same (`changes-exactly`, Theorems).
+-- From one known set the step (goal, reasons, new literals and cost) differs from that of the order before E6 exactly where some candidate of least cost has
+-- fewer facts than that one, and both cost the same (`changes-exactly`, Theorems).
 pub record ChangesExactly (q : Question) : Type 0 where
   pub differs-fewer : (stepOf q ≡ lowerGoalStep q → ⊥) → FewerThan q (lowerGoalStep q)
   pub fewer-differs : FewerThan q (lowerGoalStep q) → stepOf q ≡ lowerGoalStep q → ⊥

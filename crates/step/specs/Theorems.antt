@@ -58,6 +58,7 @@ module _ (t : Theory) (table : List (List ℕ)) (c facts known : LiteralSet) (fo
 
     -- ---- fewer reasons (E6)
 
-    -- From such a known set the step changes exactly where some candidate of least cost has fewer facts than the step of the order before E6.
+    -- From such a known set the step changes exactly where some candidate of least cost has fewer facts than the step of the order before E6, and both
+    -- cost the same.
     pub changes-exactly : ChangesExactly (asking t table c known)
     changes-exactly = lower-goal.changes-exactly (asking t table c known) between-sound

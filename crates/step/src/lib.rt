@@ -35,7 +35,7 @@ const VARIABLES: u64 = Book::MAX_CHOICES as u64;
 
 const COUNTS: u64 = VARIABLES + 1;
 
-// What is added to a key by one of a goal's variable, by one fact, and by one unit of cost.
+// What a key gains for a goal's variable one higher, for one fact more, and for one unit of cost more.
 const GOAL_UNIT: u64 = SETS;
 
 const FACT_UNIT: u64 = VARIABLES * GOAL_UNIT;

@@ -14,7 +14,7 @@ use Rattle.consequence.specs.Laws.Forcing.{contradicts-none, none-contradicts}
 use Rattle.step.specs.Meaning.{Question, goals, againstOn, againstOff, refutes, isCandidate, Candidate, firstOf, candidate, candidatesFor}
 use Rattle.step.specs.Meaning.{candidatesBelow, candidates, allKnown}
 use Rattle.step.specs.Contracts.{Picks}
-use Rattle.step.specs.Laws.Order.{TotalOrder, FirstIn, first-in}
+use Rattle.step.specs.Laws.Order.{TotalPreorder, FirstIn, first-in}
 
 module _ (q : Question) where
   -- ---- the test
@@ -139,7 +139,7 @@ module _ (q : Question) where
     pub first : (v s : ℕ) → Picks q v s → Le c (candidate q v s)
 
   -- the first of all is, where all of K with the goal of the lowest variable is one
-  pub first-stepped : {order : Candidate → Candidate → Bool} {Le : Candidate → Candidate → Type 0} → TotalOrder order Le → Sized
+  pub first-stepped : {order : Candidate → Candidate → Bool} {Le : Candidate → Candidate → Type 0} → TotalPreorder order Le → Sized
       → Picks q (allKnown q .goal) (allKnown q .reasons) → Stepped Le (firstOf order (allKnown q) (candidates q))
   unfolding allKnown candidate
   first-stepped {order} {Le} o z x =

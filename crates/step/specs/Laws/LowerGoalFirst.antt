@@ -11,8 +11,8 @@ use Rattle.sets.specs.Laws.Subset.{apart-within, inter-in}
 use Rattle.step.specs.Meaning.{Question, goals, reasonsOn, reasonsOff, Candidate, theStep, Answer}
 use Rattle.step.specs.Meaning.{nothingLeft, step, stepFrom, stepOf}
 use Rattle.step.specs.IsStep.{Sound, Lex, Upto, placed, IsStep}
-use Rattle.step.specs.LowerGoalFirst.{lowerGoalFirst, lowerGoal, lowerGoalStep, FewerFacts, FewerThan, SameCost, ChangesExactly}
-use Rattle.step.specs.Laws.Order.{TotalOrder, by-number, by-number-then, lex-both, lex-le}
+use Rattle.step.specs.LowerGoalFirst.{lowerGoalFirst, lowerGoalCandidate, lowerGoalStep, FewerFacts, FewerThan, SameCost, ChangesExactly}
+use Rattle.step.specs.Laws.Order.{TotalPreorder, by-number, by-number-then, lex-both, lex-le}
 use Rattle.step.specs.Laws.Known.{known-apart, reasons-union}
 use Rattle.step.specs.Laws.Candidates.{Stepped}
 use Rattle.step.specs.Laws.TheStep.{answer-left, answer-open, step-left, step-open, sound-forcing, first-taken, taken, from-stepped}
@@ -21,7 +21,7 @@ use Rattle.step.specs.Laws.TheStep.{answer-left, answer-open, step-left,
 abbrev UptoByGoal : Candidate → Candidate → Type 0
 UptoByGoal c d = Lex (c .cost) (d .cost) (Lex (c .goal) (d .goal) (c .reasons ≤ d .reasons))
 
-by-goal : TotalOrder lowerGoalFirst UptoByGoal
+by-goal : TotalPreorder lowerGoalFirst UptoByGoal
 unfolding lowerGoalFirst
 by-goal = by-number-then (λ c. c .cost) (by-number-then (λ c. c .goal) (by-number (λ c. c .reasons)))
 
@@ -52,27 +52,27 @@ module _ (q : Question) (z : Sound q) where
   -- ---- where a goal is left
 
   module _ (left : goals q ≡ 0 → ⊥) where
-    first-here : Stepped q Upto (theStep q)
-    first-here = taken q z left
+    step-first : Stepped q Upto (theStep q)
+    step-first = taken q z left
 
-    first-there : Stepped q UptoByGoal (lowerGoal q)
-    unfolding lowerGoal
-    first-there = first-taken q z by-goal left
+    lower-first : Stepped q UptoByGoal (lowerGoalCandidate q)
+    unfolding lowerGoalCandidate
+    lower-first = first-taken q z by-goal left
 
     -- neither comes before the first of the other order
-    here-there : Upto (theStep q) (lowerGoal q)
-    here-there = subst (Upto (theStep q)) (sym (first-there .listed .is)) (first-here .first _ _ (first-there .listed .picks))
+    step-upto : Upto (theStep q) (lowerGoalCandidate q)
+    step-upto = subst (Upto (theStep q)) (sym (lower-first .listed .is)) (step-first .first _ _ (lower-first .listed .picks))
 
-    there-here : UptoByGoal (lowerGoal q) (theStep q)
-    there-here = subst (UptoByGoal (lowerGoal q)) (sym (first-here .listed .is)) (first-there .first _ _ (first-here .listed .picks))
+    lower-upto : UptoByGoal (lowerGoalCandidate q) (theStep q)
+    lower-upto = subst (UptoByGoal (lowerGoalCandidate q)) (sym (step-first .listed .is)) (lower-first .first _ _ (step-first .listed .picks))
 
-    costs : theStep q .cost ≡ lowerGoal q .cost
-    costs = lex-both here-there there-here .0
+    costs : theStep q .cost ≡ lowerGoalCandidate q .cost
+    costs = lex-both step-upto lower-upto .0
 
     it : IsStep q (stepFrom q (theStep q))
-    it = from-stepped q z (theStep q) first-here
+    it = from-stepped q z (theStep q) step-first
 
-    fewer : count (theStep q .reasons) < count (lowerGoal q .reasons) → FewerFacts q (stepFrom q (lowerGoal q))
+    fewer : count (theStep q .reasons) < count (lowerGoalCandidate q .reasons) → FewerFacts q (stepFrom q (lowerGoalCandidate q))
     unfolding stepFrom
     fewer h =
         record {
@@ -82,13 +82,13 @@ module _ (q : Question) (z : Sound q) where
           says = it .says;
           is-candidate = it .is-candidate;
           least-cost = λ a b v y k. omega (arith, it .cost-said, it .cheapest a b v y k);
-          fewer = omega (arith, h, facts-of (theStep q) first-here, facts-of (lowerGoal q) first-there);
+          fewer = omega (arith, h, facts-of (theStep q) step-first, facts-of (lowerGoalCandidate q) lower-first);
         }
 
-    differs : (stepFrom q (theStep q) ≡ stepFrom q (lowerGoal q) → ⊥) → FewerFacts q (stepFrom q (lowerGoal q))
-    differs n = go (same-or-fewer here-there there-here)
+    differs : (stepFrom q (theStep q) ≡ stepFrom q (lowerGoalCandidate q) → ⊥) → FewerFacts q (stepFrom q (lowerGoalCandidate q))
+    differs n = go (same-or-fewer step-upto lower-upto)
       where
-        go : (theStep q ≡ lowerGoal q) ⊎ (count (theStep q .reasons) < count (lowerGoal q .reasons)) → FewerFacts q (stepFrom q (lowerGoal q))
+        go : (theStep q ≡ lowerGoalCandidate q) ⊎ (count (theStep q .reasons) < count (lowerGoalCandidate q .reasons)) → FewerFacts q (stepFrom q (lowerGoalCandidate q))
         go (inl e) = absurd (n (ap (stepFrom q) e))
         go (inr h) = fewer h
 
@@ -113,14 +113,14 @@ module _ (q : Question) (z : Sound q) where
   -- ---- the answers
 
   module _ (A : Answer → Answer → Type 0) (none : A nothingLeft nothingLeft)
-      (some : (goals q ≡ 0 → ⊥) → A (step (stepFrom q (theStep q))) (step (stepFrom q (lowerGoal q)))) where
+      (some : (goals q ≡ 0 → ⊥) → A (step (stepFrom q (theStep q))) (step (stepFrom q (lowerGoalCandidate q)))) where
     -- what holds of both answers where nothing is left, and of both steps
     both-answers : A (stepOf q) (lowerGoalStep q)
     unfolding lowerGoalStep
     both-answers =
         by-cases (ℕ-discrete (goals q) 0)
-        (λ e. subst₂ A (sym (step-left q e)) (sym (answer-left q (lowerGoal q) e)) none)
-        (λ e. subst₂ A (sym (step-open q e)) (sym (answer-open q (lowerGoal q) e)) (some e))
+        (λ e. subst₂ A (sym (step-left q e)) (sym (answer-left q (lowerGoalCandidate q) e)) none)
+        (λ e. subst₂ A (sym (step-open q e)) (sym (answer-open q (lowerGoalCandidate q) e)) (some e))
 
   pub changes-exactly : ChangesExactly q
   unfolding stepFrom

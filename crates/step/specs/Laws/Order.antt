@@ -42,15 +42,15 @@ before-false a b t {X} f e = go (ltb a b) (eqb a b) t refl refl f e
     go false true z p q g d = inr (sym (eqb-true a b q), g d)
     go false false z p q g d = let ne : a ≡ b → ⊥ = eqb-false a b q in inl (omega (arith, ltb-false a b p))
 
--- An order as a test and as a fact.
-pub record TotalOrder (order : Candidate → Candidate → Bool) (Le : Candidate → Candidate → Type 0) : Type 0 where
+-- An order as a test and as a fact. Two candidates may each come up to the other.
+pub record TotalPreorder (order : Candidate → Candidate → Bool) (Le : Candidate → Candidate → Type 0) : Type 0 where
   pub reflexive : (c : Candidate) → Le c c
   pub transitive : {c d e : Candidate} → Le c d → Le d e → Le c e
   pub if-before : (c d : Candidate) → order c d ≡ true → Le c d
   pub if-not : (c d : Candidate) → order c d ≡ false → Le d c
 
 -- by a number,
-pub by-number : (f : Candidate → ℕ) → TotalOrder (λ c d. ltb (f c) (f d)) (λ c d. f c ≤ f d)
+pub by-number : (f : Candidate → ℕ) → TotalPreorder (λ c d. ltb (f c) (f d)) (λ c d. f c ≤ f d)
 by-number f =
     record {
       reflexive = λ c. omega arith;
@@ -60,8 +60,8 @@ by-number f =
     }
 
 -- and by a number, then by an order
-pub by-number-then : (f : Candidate → ℕ) {order : Candidate → Candidate → Bool} {Le : Candidate → Candidate → Type 0} → TotalOrder order Le
-    → TotalOrder (λ c d. before (f c) (f d) (order c d)) (λ c d. Lex (f c) (f d) (Le c d))
+pub by-number-then : (f : Candidate → ℕ) {order : Candidate → Candidate → Bool} {Le : Candidate → Candidate → Type 0} → TotalPreorder order Le
+    → TotalPreorder (λ c d. before (f c) (f d) (order c d)) (λ c d. Lex (f c) (f d) (Le c d))
 by-number-then f o =
     record {
       reflexive = λ c. inr (refl, o .reflexive c);
@@ -71,7 +71,7 @@ by-number-then f o =
     }
 
 -- the order of the candidates
-pub upto-order : TotalOrder earlier Upto
+pub upto-order : TotalPreorder earlier Upto
 unfolding earlier
 upto-order =
     by-number-then (λ c. c .cost)
@@ -103,7 +103,7 @@ pub record FirstIn (Le : Candidate → Candidate → Type 0) (cs : List Candidat
   pub member : List·Memᴰ d cs
   pub first : (c : Candidate) → List·Memᴰ c cs → Le d c
 
-module _ {order : Candidate → Candidate → Bool} {Le : Candidate → Candidate → Type 0} (o : TotalOrder order Le) where
+module _ {order : Candidate → Candidate → Bool} {Le : Candidate → Candidate → Type 0} (o : TotalPreorder order Le) where
   pub first-in : (c : Candidate) (cs : List Candidate) → FirstIn Le (c ∷ cs) (firstOf order c cs)
   unfolding firstOf
   first-in c [] = record { member = List·Memᴰ·head refl; first = λ x m. alone x (List·Memᴰ·cases-cons m) }

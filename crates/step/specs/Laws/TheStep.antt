@@ -23,7 +23,7 @@ use Rattle.step.specs.Meaning.{Question, setCost, yesGoals, goals, goalL
 use Rattle.step.specs.Meaning.{firstOf, candidates, allKnown, theStep, Step, nothingLeft, step, newOn, newOff, stepFrom, answerWith, stepOf}
 use Rattle.step.specs.Meaning.{noGoals}
 use Rattle.step.specs.Contracts.{Picks, Asked, maskQuestion}
-use Rattle.step.specs.Laws.Order.{TotalOrder, upto-order, lex-le}
+use Rattle.step.specs.Laws.Order.{TotalPreorder, upto-order, lex-le}
 use Rattle.step.specs.IsStep.{Sound, oppositeOn, oppositeOff, Goal, Candidature, Upto, placed, New, Gained, IsStep}
 use Rattle.step.specs.Laws.Known.{Forcing, goals-at, is-goal, against-on, against-off, reasons-union, goal-is, candidature-picks, candidature-cost}
 use Rattle.step.specs.Laws.Known.{all-picked, open-unknown}
@@ -211,7 +211,7 @@ module _ (q : Question) (z : Sound q) where
   -- ---- the answer
 
   -- the candidate that is taken in an order, where a goal is left
-  pub first-taken : {order : Candidate → Candidate → Bool} {Le : Candidate → Candidate → Type 0} → TotalOrder order Le → (goals q ≡ 0 → ⊥)
+  pub first-taken : {order : Candidate → Candidate → Bool} {Le : Candidate → Candidate → Type 0} → TotalPreorder order Le → (goals q ≡ 0 → ⊥)
       → Stepped q Le (firstOf order (allKnown q) (candidates q))
   unfolding allKnown candidate
   first-taken o ne =
