@@ -1,0 +1,3 @@
+pub mod Seen
+pub mod Calls
+pub mod Contracts

@@ -1,0 +1,233 @@
+// The engine for C: one exported function for each public call of `engine`, with what it answers behind pointers. Each returns 0 for done, or the refusal
+// as one number, and after a refusal nothing behind a pointer has changed. None asks anything of its caller that Rattle can say; what a pointer and a
+// length from C must be is said in host/why.h.
+ghost use mathlib.Core.Path.{_≡_};
+ghost use Rattle.c_interface.specs.Seen.{code, asBook, asLiterals, asStep, asLog, seenStep};
+ghost use Rattle.c_interface.specs.Contracts.{outcomeOf};
+ghost use Rattle.c_interface.specs.Calls.{BookSeen, CostsSeen, DimacsSeen, ModelSeen, ConsequenceSeen, StepSeen, LogSeen};
+use book::Book;
+use book::Verdict;
+use dimacs::Imported;
+use engine::ConsequenceAnswer;
+use engine::LogAnswer;
+use engine::ModelAnswer;
+use engine::StepAnswer;
+use literals::LiteralSet;
+
+// The largest place that a refusal has room for: 2 ^ 56 - 1.
+pub const MAX_PLACE: u64 = 72057594037927935;
+
+// A refusal as one number: its number in the lowest byte, its place above it.
+fn refusal(number: u8, place: usize) -> u64
+    ensures { λ r. ⌜ r ≡ code number place ⌝ }
+{
+    let at = place as u64;
+    if MAX_PLACE < at {
+        return number as u64 + 256 * MAX_PLACE;
+    }
+    number as u64 + 256 * at
+}
+
+// The book reader: the counts, the rules and the given facts.
+// Ruled out: counts written before the book is known to be proper; the facts' yes and no exchanged.
+#[no_mangle]
+pub extern "C" fn why_read_book(
+    book: &[u8],
+    variables: &mut u64,
+    choices: &mut u64,
+    rules: &mut u64,
+    rules_yes: &mut [u64; Book::MAX_RULES],
+    rules_no: &mut [u64; Book::MAX_RULES],
+    facts_yes: &mut u64,
+    facts_no: &mut u64,
+) -> u64
+    ensures { λ r. ⌜ BookSeen (now (book .entry))
+        (asBook (now (variables .entry)) (now (choices .entry)) (now (rules .entry)) (now («rules_yes» .entry)) (now («rules_no» .entry))
+        (now («facts_yes» .entry)) (now («facts_no» .entry)))
+        (asBook (now (variables .exit)) (now (choices .exit)) (now (rules .exit)) (now («rules_yes» .exit)) (now («rules_no» .exit))
+        (now («facts_yes» .exit)) (now («facts_no» .exit))) r ⌝ }
+{
+    let reading = engine::read_book(book);
+    let verdict = reading.verdict;
+    match verdict {
+        Verdict::Refused { number, place } => refusal(number, place),
+        Verdict::Accepted => {
+            let b = reading.book;
+            *variables = b.variables as u64;
+            *choices = b.choices as u64;
+            *rules = b.rules as u64;
+            let yes = b.yes;
+            *rules_yes = yes;
+            let no = b.no;
+            *rules_no = no;
+            *facts_yes = b.facts_yes;
+            *facts_no = b.facts_no;
+            0
+        }
+    }
+}
+
+// The costs of the book.
+// Ruled out: a table of zeros beside 0 for a book that is refused; a table written over by a refusal.
+#[no_mangle]
+pub extern "C" fn why_read_costs(book: &[u8], costs: &mut [[u16; 2]; Book::MAX_CHOICES]) -> u64
+    ensures { λ r. ⌜ CostsSeen (now (book .entry)) (now (costs .entry)) (now (costs .exit)) r ⌝ }
+{
+    let reading = engine::read_book(book);
+    let verdict = reading.verdict;
+    match verdict {
+        Verdict::Refused { number, place } => refusal(number, place),
+        Verdict::Accepted => {
+            *costs = engine::read_costs(book);
+            0
+        }
+    }
+}
+
+// A book made of a DIMACS CNF text, at the front of the buffer: its length.
+// Ruled out: the length of the text for that of the book; a length written beside a refusal.
+#[no_mangle]
+pub extern "C" fn why_read_dimacs(text: &[u8], buffer: &mut [u8], size: &mut u64) -> u64
+    ensures { λ r. ⌜ DimacsSeen (now (text .entry)) (now (buffer .entry)) (now (buffer .exit)) (now (size .entry)) (now (size .exit)) r ⌝ }
+{
+    match engine::read_dimacs(text, buffer) {
+        Imported::Refused { number, place } => refusal(number, place),
+        Imported::Written(length) => {
+            *size = length as u64;
+            0
+        }
+    }
+}
+
+// The first model: the mask of its yes.
+// Ruled out: 0 returned where there is no model; a refusal without its place.
+#[no_mangle]
+pub extern "C" fn why_model(book: &[u8], model: &mut u64) -> u64
+    ensures { λ r. ⌜ ModelSeen (now (book .entry)) (now (model .entry)) (now (model .exit)) r ⌝ }
+{
+    match engine::model(book) {
+        ModelAnswer::Refused { number, place } => refusal(number, place),
+        ModelAnswer::Model(m) => {
+            *model = m;
+            0
+        }
+    }
+}
+
+// What is filled in: demand 2.
+// Ruled out: yes and no exchanged; only the yes written.
+#[no_mangle]
+pub extern "C" fn why_consequence(book: &[u8], yes: &mut u64, no: &mut u64) -> u64
+    ensures { λ r. ⌜ ConsequenceSeen (now (book .entry)) (asLiterals (now (yes .entry)) (now (no .entry))) (asLiterals (now (yes .exit)) (now (no .exit))) r ⌝ }
+{
+    match engine::consequence(book) {
+        ConsequenceAnswer::Refused { number, place } => refusal(number, place),
+        ConsequenceAnswer::Forced(forced) => {
+            *yes = forced.yes;
+            *no = forced.no;
+            0
+        }
+    }
+}
+
+// A step as C sees it.
+pub struct StepShown {
+    pub goal: i8,
+    pub reasons: LiteralSet,
+    pub new: LiteralSet,
+    pub cost: u16,
+}
+
+// What an answer on the next step comes to for C.
+enum StepOutcome {
+    Done(StepShown),
+    Refusal { number: u8, place: usize },
+}
+
+// The outcome of an answer on the next step: where nothing is left, 0 for everything.
+fn step_outcome(answer: StepAnswer) -> StepOutcome
+    ensures { λ r. ⌜ outcomeOf r ≡ seenStep answer ⌝ }
+{
+    match answer {
+        StepAnswer::Refused { number, place } => StepOutcome::Refusal { number, place },
+        StepAnswer::NothingLeft => StepOutcome::Done(StepShown {
+            goal: 0,
+            reasons: LiteralSet { yes: 0, no: 0 },
+            new: LiteralSet { yes: 0, no: 0 },
+            cost: 0,
+        }),
+        StepAnswer::Step {
+            goal,
+            reasons,
+            new,
+            cost,
+        } => StepOutcome::Done(StepShown {
+            goal,
+            reasons,
+            new,
+            cost,
+        }),
+    }
+}
+
+// The cheapest next step from a known set; where nothing is left, 0 for everything.
+// Ruled out: the goal's variable without its sign; what was there before left standing where nothing is left.
+#[no_mangle]
+pub extern "C" fn why_next_step(
+    book: &[u8],
+    known_yes: u64,
+    known_no: u64,
+    goal: &mut i64,
+    reasons_yes: &mut u64,
+    reasons_no: &mut u64,
+    new_yes: &mut u64,
+    new_no: &mut u64,
+    cost: &mut u64,
+) -> u64
+    ensures { λ r. ⌜ StepSeen (now (book .entry)) «known_yes» «known_no»
+        (asStep (now (goal .entry)) (now («reasons_yes» .entry)) (now («reasons_no» .entry)) (now («new_yes» .entry)) (now («new_no» .entry)) (now (cost .entry)))
+        (asStep (now (goal .exit)) (now («reasons_yes» .exit)) (now («reasons_no» .exit)) (now («new_yes» .exit)) (now («new_no» .exit)) (now (cost .exit))) r ⌝ }
+{
+    match step_outcome(engine::next_step(book, known_yes, known_no)) {
+        StepOutcome::Refusal { number, place } => refusal(number, place),
+        StepOutcome::Done(step) => {
+            let reasons = step.reasons;
+            let new = step.new;
+            *goal = step.goal as i64;
+            *reasons_yes = reasons.yes;
+            *reasons_no = reasons.no;
+            *new_yes = new.yes;
+            *new_no = new.no;
+            *cost = step.cost as u64;
+            0
+        }
+    }
+}
+
+// The log into the buffer, its length, its number of steps and its total: demand 3.
+// Ruled out: the buffer's length for the log's; the total and the number of steps exchanged.
+#[no_mangle]
+pub extern "C" fn why_log(
+    book: &[u8],
+    buffer: &mut [u8],
+    size: &mut u64,
+    steps: &mut u64,
+    total: &mut u64,
+) -> u64
+    ensures { λ r. ⌜ LogSeen (now (book .entry)) (now (buffer .entry)) (now (buffer .exit))
+        (asLog (now (size .entry)) (now (steps .entry)) (now (total .entry))) (asLog (now (size .exit)) (now (steps .exit)) (now (total .exit))) r ⌝ }
+{
+    match engine::log(book, buffer) {
+        LogAnswer::Refused { number, place } => refusal(number, place),
+        LogAnswer::Written {
+            size: length,
+            steps: count,
+            total: sum,
+        } => {
+            *size = length as u64;
+            *steps = count as u64;
+            *total = sum as u64;
+            0
+        }
+    }
+}
