@@ -7,6 +7,7 @@ pub mod ManyLaws
 pub mod NumberLaws
 pub mod PaddedLaws
 pub mod PartLaws
+pub mod PlaceLaws
 pub mod RuleLaws
 pub mod ValueLaws
 pub mod WellFormed

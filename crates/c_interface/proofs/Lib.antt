@@ -1,2 +1,3 @@
 mod SeenLaws
 mod CastLaws
+pub mod Told

@@ -1,3 +1,5 @@
 pub mod Seen
 pub mod Calls
+pub mod Told
+pub mod Rows
 pub mod Contracts
