@@ -29,7 +29,7 @@ fn refusal(number: u8, place: usize) -> u64
 }
 
 // The book reader: the counts, the rules and the given facts.
-// Ruled out: counts written before the book is known to be proper; the facts' yes and no exchanged.
+// Ruled out: a count written before the book is known to be proper; the facts that are no given as those that are yes.
 #[no_mangle]
 pub extern "C" fn why_read_book(
     book: &[u8],
@@ -68,13 +68,12 @@ pub extern "C" fn why_read_book(
 }
 
 // The costs of the book.
-// Ruled out: a table of zeros beside 0 for a book that is refused; a table written over by a refusal.
+// Ruled out: a table written over by a refusal; a table left as it was where 0 is returned.
 #[no_mangle]
 pub extern "C" fn why_read_costs(book: &[u8], costs: &mut [[u16; 2]; Book::MAX_CHOICES]) -> u64
     ensures { λ r. ⌜ CostsSeen (now (book .entry)) (now (costs .entry)) (now (costs .exit)) r ⌝ }
 {
-    let reading = engine::read_book(book);
-    let verdict = reading.verdict;
+    let verdict = engine::read_book(book).verdict;
     match verdict {
         Verdict::Refused { number, place } => refusal(number, place),
         Verdict::Accepted => {
@@ -85,22 +84,22 @@ pub extern "C" fn why_read_costs(book: &[u8], costs: &mut [[u16; 2]; Book::MAX_C
 }
 
 // A book made of a DIMACS CNF text, at the front of the buffer: its length.
-// Ruled out: the length of the text for that of the book; a length written beside a refusal.
+// Ruled out: the length of the buffer for that of the book; a length of 0 written beside a refusal.
 #[no_mangle]
 pub extern "C" fn why_read_dimacs(text: &[u8], buffer: &mut [u8], size: &mut u64) -> u64
     ensures { λ r. ⌜ DimacsSeen (now (text .entry)) (now (buffer .entry)) (now (buffer .exit)) (now (size .entry)) (now (size .exit)) r ⌝ }
 {
     match engine::read_dimacs(text, buffer) {
         Imported::Refused { number, place } => refusal(number, place),
-        Imported::Written(length) => {
-            *size = length as u64;
+        Imported::Written(made) => {
+            *size = made as u64;
             0
         }
     }
 }
 
 // The first model: the mask of its yes.
-// Ruled out: 0 returned where there is no model; a refusal without its place.
+// Ruled out: 0 returned for a refusal; a refusal without its place.
 #[no_mangle]
 pub extern "C" fn why_model(book: &[u8], model: &mut u64) -> u64
     ensures { λ r. ⌜ ModelSeen (now (book .entry)) (now (model .entry)) (now (model .exit)) r ⌝ }
@@ -115,7 +114,7 @@ pub extern "C" fn why_model(book: &[u8], model: &mut u64) -> u64
 }
 
 // What is filled in: demand 2.
-// Ruled out: yes and no exchanged; only the yes written.
+// Ruled out: what is no given as what is yes; only the yes written.
 #[no_mangle]
 pub extern "C" fn why_consequence(book: &[u8], yes: &mut u64, no: &mut u64) -> u64
     ensures { λ r. ⌜ ConsequenceSeen (now (book .entry)) (asLiterals (now (yes .entry)) (now (no .entry))) (asLiterals (now (yes .exit)) (now (no .exit))) r ⌝ }
@@ -171,7 +170,7 @@ fn step_outcome(answer: StepAnswer) -> StepOutcome
 }
 
 // The cheapest next step from a known set; where nothing is left, 0 for everything.
-// Ruled out: the goal's variable without its sign; what was there before left standing where nothing is left.
+// Ruled out: the new literals given as the reasons; a goal where nothing is left.
 #[no_mangle]
 pub extern "C" fn why_next_step(
     book: &[u8],
@@ -205,7 +204,7 @@ pub extern "C" fn why_next_step(
 }
 
 // The log into the buffer, its length, its number of steps and its total: demand 3.
-// Ruled out: the buffer's length for the log's; the total and the number of steps exchanged.
+// Ruled out: the total given as the number of steps; a number of steps written beside a refusal.
 #[no_mangle]
 pub extern "C" fn why_log(
     book: &[u8],

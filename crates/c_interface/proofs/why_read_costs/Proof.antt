@@ -1,5 +1,5 @@
 -- `c_interface::why_read_costs` meets its contract. Assumes nothing.
-use mathlib.Core.Path.{refl}
+use mathlib.Core.Path.{refl, sym, ap₂}
 use borrow.Author.Needs.{needs}
 use Rattle.c_interface.specs.Seen.{byVerdict, seenCosts}
 use Rattle.c_interface.proofs.SeenLaws.{seen-done, seen-refused}
@@ -16,7 +16,7 @@ returns-2 : tie.Need-returns-2
 unfolding seenCosts byVerdict
 returns-2 c =
     let m = c .before .before .before .read-book .ensures in
-    seen-done m m refl (rw (c .before .enum-told .given .1, c .read-costs .ensures) refl)
+    seen-done m m refl (ap₂ byVerdict (sym (c .read-costs .ensures)) (c .before .enum-told .given .1))
 
 pub why-read-costs-spec : {M : Type 1} → statement M
 why-read-costs-spec =

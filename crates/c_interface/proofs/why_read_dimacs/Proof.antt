@@ -16,7 +16,7 @@ returns-2 : tie.Need-returns-2
 unfolding seenImported
 returns-2 c =
     let m = c .before .before .before .before .before .read-dimacs .ensures in
-    seen-done m (m .said .answered) (c .before .length .given .1) refl
+    seen-done m (m .said .answered) (c .before .made .given .1) refl
 
 pub why-read-dimacs-spec : {M : Type 1} → statement M
 why-read-dimacs-spec =
