@@ -1,0 +1,165 @@
+//! The Why engine's calls as safe functions, one for each function of `../why.h`. What the header leaves to the caller, pointers that are good for
+//! their lengths and do not overlap, a slice and a local of Rust's have by themselves.
+
+pub mod calls;
+
+/// V, the variables of a book, at most.
+pub const MAX_VARIABLES: usize = 48;
+/// U, the choices among them, at most.
+pub const MAX_CHOICES: usize = 32;
+/// R, the rules of a book, at most.
+pub const MAX_RULES: usize = 128;
+/// A cost, at most; the least is 1.
+pub const MAX_COST: u16 = 999;
+/// The literals of one rule, at most.
+pub const MAX_LITERALS: usize = 8;
+/// The bytes of a book, at most.
+pub const MAX_BOOK: usize = 1735;
+/// The bytes of a log, at most: what the buffer of [`log`] must have.
+pub const MAX_LOG: usize = 1255;
+/// The bytes of a book without facts, at most: what the buffer of [`read_dimacs`] must have.
+pub const MAX_WITHOUT_FACTS: usize = 1639;
+/// The largest place that a refusal has room for.
+pub const MAX_PLACE: u64 = 0xffffffffffffff;
+
+/// A refusal: its number, as in the table of `../README.md`, and its place.
+#[derive(Clone, Copy, Debug, PartialEq, Eq)]
+pub struct Refusal {
+    pub number: u8,
+    pub place: u64,
+}
+
+/// A set of literals: the variables that are yes, and those that are no. Bit v - 1 stands for variable v.
+#[derive(Clone, Copy, Debug, PartialEq, Eq)]
+pub struct Literals {
+    pub yes: u64,
+    pub no: u64,
+}
+
+/// A book as it is read. The literals of rule i are `rules_yes[i]` and `rules_no[i]`; after the last rule both are 0.
+#[derive(Clone, Debug, PartialEq, Eq)]
+pub struct Book {
+    pub variables: u64,
+    pub choices: u64,
+    pub rules: u64,
+    pub rules_yes: [u64; MAX_RULES],
+    pub rules_no: [u64; MAX_RULES],
+    pub facts: Literals,
+}
+
+/// The costs: the row of choice v is `[v - 1]`, its yes first; rows of 0 after the last choice.
+pub type Costs = [[u16; 2]; MAX_CHOICES];
+
+/// The cheapest next step, or that the known set is the consequence.
+#[derive(Clone, Copy, Debug, PartialEq, Eq)]
+pub enum Step {
+    Next {
+        /// v for the yes of variable v, -v for its no.
+        goal: i8,
+        reasons: Literals,
+        new: Literals,
+        cost: u16,
+    },
+    NothingLeft,
+}
+
+/// The log that was written: its length, its number of steps, their total cost.
+#[derive(Clone, Copy, Debug, PartialEq, Eq)]
+pub struct Log {
+    pub size: usize,
+    pub steps: u8,
+    pub total: u32,
+}
+
+/// What a call answered: 0 is done, anything else a refusal, its number in the lowest byte and its place above.
+fn answered<T>(returned: u64, done: impl FnOnce() -> T) -> Result<T, Refusal> {
+    if returned == 0 {
+        Ok(done())
+    } else {
+        Err(Refusal { number: (returned & 0xff) as u8, place: returned >> 8 })
+    }
+}
+
+/// The book as it is read. Refuses with 1 to 7.
+pub fn read_book(book: &[u8]) -> Result<Book, Refusal> {
+    let (mut variables, mut choices, mut rules) = (0, 0, 0);
+    let (mut rules_yes, mut rules_no) = ([0; MAX_RULES], [0; MAX_RULES]);
+    let mut facts = Literals { yes: 0, no: 0 };
+    let returned = unsafe {
+        calls::why_read_book(
+            book.as_ptr(),
+            book.len(),
+            &mut variables,
+            &mut choices,
+            &mut rules,
+            &mut rules_yes,
+            &mut rules_no,
+            &mut facts.yes,
+            &mut facts.no,
+        )
+    };
+    answered(returned, || Book { variables, choices, rules, rules_yes, rules_no, facts })
+}
+
+/// The costs of the book. Refuses with 1 to 7.
+pub fn read_costs(book: &[u8]) -> Result<Costs, Refusal> {
+    let mut costs = [[0; 2]; MAX_CHOICES];
+    let returned = unsafe { calls::why_read_costs(book.as_ptr(), book.len(), &mut costs) };
+    answered(returned, || costs)
+}
+
+/// Makes a book of a DIMACS CNF text at the front of the buffer, and answers its length. Refuses with 8, 12, 13.
+pub fn read_dimacs(text: &[u8], buffer: &mut [u8]) -> Result<usize, Refusal> {
+    let mut size = 0;
+    let returned =
+        unsafe { calls::why_read_dimacs(text.as_ptr(), text.len(), buffer.as_mut_ptr(), buffer.len(), &mut size) };
+    answered(returned, || size as usize)
+}
+
+/// The first model, as the mask of its yes. Refuses with 1 to 7, 9.
+pub fn model(book: &[u8]) -> Result<u64, Refusal> {
+    let mut model = 0;
+    let returned = unsafe { calls::why_model(book.as_ptr(), book.len(), &mut model) };
+    answered(returned, || model)
+}
+
+/// What is filled in. Refuses with 1 to 7, 9.
+pub fn consequence(book: &[u8]) -> Result<Literals, Refusal> {
+    let mut forced = Literals { yes: 0, no: 0 };
+    let returned = unsafe { calls::why_consequence(book.as_ptr(), book.len(), &mut forced.yes, &mut forced.no) };
+    answered(returned, || forced)
+}
+
+/// The cheapest next step from a known set. Refuses with 1 to 7, 9, 10.
+pub fn next_step(book: &[u8], known: Literals) -> Result<Step, Refusal> {
+    let (mut goal, mut cost) = (0, 0);
+    let mut reasons = Literals { yes: 0, no: 0 };
+    let mut new = Literals { yes: 0, no: 0 };
+    let returned = unsafe {
+        calls::why_next_step(
+            book.as_ptr(),
+            book.len(),
+            known.yes,
+            known.no,
+            &mut goal,
+            &mut reasons.yes,
+            &mut reasons.no,
+            &mut new.yes,
+            &mut new.no,
+            &mut cost,
+        )
+    };
+    answered(returned, || match goal {
+        0 => Step::NothingLeft,
+        _ => Step::Next { goal: goal as i8, reasons, new, cost: cost as u16 },
+    })
+}
+
+/// Writes the log at the front of the buffer. Refuses with 1 to 7, 8, 9.
+pub fn log(book: &[u8], buffer: &mut [u8]) -> Result<Log, Refusal> {
+    let (mut size, mut steps, mut total) = (0, 0, 0);
+    let returned = unsafe {
+        calls::why_log(book.as_ptr(), book.len(), buffer.as_mut_ptr(), buffer.len(), &mut size, &mut steps, &mut total)
+    };
+    answered(returned, || Log { size: size as usize, steps: steps as u8, total: total as u32 })
+}
