@@ -1,5 +1,5 @@
-//! The functions of `../../why.h` as the archive exports them, for whoever needs the pointers themselves. Nothing checks these lines against the
-//! archive but the tests, which call every one.
+//! The functions of `../../why.h` as the archive exports them, for whoever needs the pointers themselves. `../../check-header` holds these lines against
+//! the archive's source, and the tests call every one.
 use crate::{Costs, MAX_RULES};
 
 extern "C" {

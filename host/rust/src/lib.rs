@@ -22,7 +22,35 @@ pub const MAX_WITHOUT_FACTS: usize = 1639;
 /// The largest place that a refusal has room for.
 pub const MAX_PLACE: u64 = 0xffffffffffffff;
 
-/// A refusal: its number, as in the table of `../README.md`, and its place.
+/// The numbers of the refusals, named as in `../why.h`; `../README.md` says what a screen should do about each.
+pub mod number {
+    /// Fewer bytes are left than a record's mark, its count byte or its fields need.
+    pub const BYTES_MISSING: u8 = 1;
+    /// A mark that is not allowed there.
+    pub const WRONG_MARK: u8 = 2;
+    /// HD: V, U or R over its limit, or U over V.
+    pub const WRONG_HEADER: u8 = 3;
+    /// CS: not the next choice, or a cost outside 1 to 999.
+    pub const WRONG_COST: u8 = 4;
+    /// RL: a count over 8.
+    pub const WRONG_COUNT: u8 = 5;
+    /// RL, FA: literal 0, a variable over V (in FA over U), or not rising.
+    pub const WRONG_LITERAL: u8 = 6;
+    /// A byte after EN.
+    pub const BYTE_AFTER_END: u8 = 7;
+    /// The lent buffer is too short.
+    pub const SHORT_BUFFER: u8 = 8;
+    /// No filling obeys the rules and the given facts.
+    pub const NO_MODEL: u8 = 9;
+    /// The known set is not between the given facts and the consequence.
+    pub const WRONG_KNOWN_SET: u8 = 10;
+    /// The text is not of the form.
+    pub const NOT_DIMACS: u8 = 12;
+    /// DIMACS: V or R over its limit, or a clause with over 8 literals.
+    pub const TOO_LARGE_DIMACS: u8 = 13;
+}
+
+/// A refusal: its number, one of [`number`], and its place.
 #[derive(Clone, Copy, Debug, PartialEq, Eq)]
 pub struct Refusal {
     pub number: u8,
