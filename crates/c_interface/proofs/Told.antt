@@ -70,7 +70,7 @@ module _ {B : Type 0} where
 
   -- the readers of a book, whatever they show of it
   verdict-bounded : (s : List ℕ) (m : Read OrderBook) (b : B) → readBook s ≡ m → Bounded (length s) (byVerdict b (bookAnswer m .verdict))
-  unfolding bookAnswer byVerdict
+  unfolding bookAnswer
   verdict-bounded s (value book end) b e = is-done
   verdict-bounded s (refused number place) b e = reader-bounded s e
 
@@ -88,7 +88,7 @@ module _ {A B : Type 0} (answer : Problem → A) (refuse : ℕ → ℕ → A) (s
 
 -- a step, nothing left, or 10
 step-bounded : (known : LiteralSet) (bytes : ℕ) (p : Problem) → Bounded bytes (seenStep (stepFor known p))
-unfolding stepFor stepSays seenStep
+unfolding stepFor stepSays
 step-bounded known bytes p = go (between (given p) known (consequenceOf p)) (stepOf (questionOf p known))
   where
     go : (b : Bool) (a : Answer) → Bounded bytes (seenStep (cond b (stepSays a) (StepAnswer.Refused 10 0)))
@@ -98,7 +98,7 @@ step-bounded known bytes p = go (between (given p) known (consequenceOf p)) (ste
 
 -- 8, and then as the others
 log-bounded : (s : List ℕ) (room : ℕ) (m : Read OrderBook) → readBook s ≡ m → Bounded (length s) (seenLog (logAnswer (logOutcome room m)))
-unfolding logOutcome logAnswer seenLog
+unfolding logOutcome logAnswer
 log-bounded s room (refused number place) e = reader-bounded s e
 log-bounded s room (value b end) e = go (ltb room maxLog)
   where
@@ -111,7 +111,6 @@ log-bounded s room (value b end) e = go (ltb room maxLog)
 
 -- from what the engine's contract says of every refusal of a text
 dimacs-bounded : (s old : List ℕ) → Bounded (length s) (seenImported (importAnswer (imported (length old) s)))
-unfolding seenImported
 dimacs-bounded s old =
     go (importAnswer (imported (length old) s))
     (dimacs-call s old {after = bufferAfter (imported (length old) s) old} (record { answered = refl; buffer = refl }) .refusals)
@@ -124,7 +123,7 @@ dimacs-bounded s old =
         refusal-in (range .0) (range .1) (w .placed)
 
 pub all-told : (s : List ℕ) → AllTold s
-unfolding seenBook seenCosts modelAnswer consequenceAnswer stepAnswer seenModel seenConsequence seenStep
+unfolding modelAnswer consequenceAnswer stepAnswer
 all-told s = record {
   book = told (verdict-bounded s (readBook s) _ refl);
   costs = told (verdict-bounded s (readBook s) _ refl);
@@ -153,7 +152,7 @@ step-goal (value b end) known goal reasons new cost i e = literal-not-0 (i .vari
 step-goal (refused number place) known goal reasons new cost i e = let z : _≡_ {A = ℕ} 0 1 = cc in omega arith
 
 pub goal-told : (s : List ℕ) (on off : ℕ) → GoalTold s on off
-unfolding behind seenStep
+unfolding behind
 goal-told s on off = record { nothing-left = λ {before} {after} x e. go (stepAnswer on off (readBook s)) refl x e }
   where
     go : (a : StepAnswer) → stepAnswer on off (readBook s) ≡ a → {before after : StepShown} → StepSeen s on off before after 0 → after .goal ≡ pos 0

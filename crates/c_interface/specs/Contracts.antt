@@ -5,6 +5,6 @@ use Rattle.c_interface.specs.declared.StepOutcome.{StepOutcome}
 use Rattle.c_interface.specs.declared.StepOutcome.the-variants as StepOutcome
 
 -- The outcome that the code's enum is.
-unfoldable pub outcomeOf : StepOutcome → Outcome StepShown
+abbrev pub outcomeOf : StepOutcome → Outcome StepShown
 outcomeOf (StepOutcome.Done step) = done step
 outcomeOf (StepOutcome.Refusal number place) = refusal number place

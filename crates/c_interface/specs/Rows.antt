@@ -14,5 +14,5 @@ thrice n = n ∷ n ∷ n ∷ []
 
 -- That these are the answers to the orders is `orders-agree` (engine/specs/Orders).
 pub numbers-agree : map numbers orders ≡ map thrice (1 ∷ 0 ∷ 0 ∷ 0 ∷ 9 ∷ 9 ∷ 0 ∷ 0 ∷ 0 ∷ (6 + 256 * 12) ∷ [])
-unfolding orders returned code seenModel seenConsequence seenLog
+unfolding orders returned code
 numbers-agree = refl

@@ -88,40 +88,40 @@ asLog size steps total = record { size = size; steps = steps; total = total }
 -- ---- each answer of the engine as an outcome
 
 -- The reader's verdict, with what is shown of an accepted book.
-unfoldable pub byVerdict : {B : Type 0} → B → Verdict → Outcome B
+abbrev pub byVerdict : {B : Type 0} → B → Verdict → Outcome B
 byVerdict b Verdict.Accepted = done b
 byVerdict b (Verdict.Refused number place) = refusal number place
 
 -- The book: every field of it.
-unfoldable pub seenBook : Reading → Outcome Book
+abbrev pub seenBook : Reading → Outcome Book
 seenBook r = byVerdict (r .book) (r .verdict)
 
 -- The costs, a row of two for each choice that a book can have.
-unfoldable pub seenCosts : List (List ℕ) → Reading → Outcome (List (List ℕ))
+abbrev pub seenCosts : List (List ℕ) → Reading → Outcome (List (List ℕ))
 seenCosts costs r = byVerdict costs (r .verdict)
 
 -- The length of the book that was made of a text.
-unfoldable pub seenImported : Imported → Outcome ℕ
+abbrev pub seenImported : Imported → Outcome ℕ
 seenImported (Imported.Written size) = done size
 seenImported (Imported.Refused number place) = refusal number place
 
 -- The mask of a model's yes.
-unfoldable pub seenModel : ModelAnswer → Outcome ℕ
+abbrev pub seenModel : ModelAnswer → Outcome ℕ
 seenModel (ModelAnswer.Model m) = done m
 seenModel (ModelAnswer.Refused number place) = refusal number place
 
 -- What is filled in, as two masks.
-unfoldable pub seenConsequence : ConsequenceAnswer → Outcome LiteralSet
+abbrev pub seenConsequence : ConsequenceAnswer → Outcome LiteralSet
 seenConsequence (ConsequenceAnswer.Forced two) = done two
 seenConsequence (ConsequenceAnswer.Refused number place) = refusal number place
 
 -- A step: its goal, its reasons, its new literals, its cost. Where nothing is left all of them are 0, the goal too, which no literal is.
-unfoldable pub seenStep : StepAnswer → Outcome StepShown
+abbrev pub seenStep : StepAnswer → Outcome StepShown
 seenStep (StepAnswer.Step goal reasons new cost) = done (record { goal = goal; reasons = reasons; new = new; cost = cost })
 seenStep StepAnswer.NothingLeft = done (asStep (pos 0) 0 0 0 0 0)
 seenStep (StepAnswer.Refused number place) = refusal number place
 
 -- A log: its length, its number of steps and its total.
-unfoldable pub seenLog : LogAnswer → Outcome LogShown
+abbrev pub seenLog : LogAnswer → Outcome LogShown
 seenLog (LogAnswer.Written size steps total) = done (asLog size steps total)
 seenLog (LogAnswer.Refused number place) = refusal number place

@@ -3,22 +3,11 @@ use mathlib.Core.Path.{refl}
 use borrow.Author.Needs.{needs}
 use mir.Syntax.{w8}
 use mir.Facts.{toZ-ofZ}
-use Rattle.c_interface.specs.Seen.{seenStep}
-use Rattle.c_interface.specs.Contracts.{outcomeOf}
 use Rattle.c_interface.proofs.step_outcome.Statement.{statement}
 use Rattle.c_interface.proofs.step_outcome.Tie as tie
 
-returns : tie.Need-returns
-unfolding outcomeOf seenStep
-returns c = rw (c .before .answer .given .1) refl
-
-returns-2 : tie.Need-returns-2
-unfolding outcomeOf seenStep
-returns-2 c = rw (c .enum-told .given .1) refl
-
-returns-3 : tie.Need-returns-3
-unfolding outcomeOf seenStep
-returns-3 c = rw (c .before .answer2 .given .1, toZ-ofZ {w = w8} (record { sfits = c .known-told2 .given .0 .1 })) refl
-
 pub step-outcome-spec : {M : Type 1} → statement M
-step-outcome-spec = tie.close (tie.spec (λ c. search needs) (λ c. search needs) (λ c. search needs) returns returns-2 returns-3)
+step-outcome-spec =
+    tie.close (tie.spec (λ c. search needs) (λ c. search needs) (λ c. search needs) (λ c. rw (c .before .answer .given .1) refl)
+    (λ c. rw (c .enum-told .given .1) refl)
+    (λ c. rw (c .before .answer2 .given .1, toZ-ofZ {w = w8} (record { sfits = c .known-told2 .given .0 .1 })) refl))

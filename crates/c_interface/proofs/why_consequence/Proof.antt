@@ -1,20 +1,14 @@
 -- `c_interface::why_consequence` meets its contract. Assumes nothing.
 use mathlib.Core.Path.{refl}
 use borrow.Author.Needs.{needs}
-use Rattle.c_interface.specs.Seen.{seenConsequence}
 use Rattle.c_interface.proofs.SeenLaws.{seen-done, seen-refused}
 use Rattle.c_interface.proofs.why_consequence.Statement.{statement}
 use Rattle.c_interface.proofs.why_consequence.Tie as tie
 
-returns : tie.Need-returns
-unfolding seenConsequence
-returns c =
-    let m = c .before .before .before .before .consequence .ensures in
-    seen-refused m (m .said) (c .before .before .number .given .1) refl (c .refusal .ensures)
-
-returns-2 : tie.Need-returns-2
-unfolding seenConsequence
-returns-2 c = let m = c .before .before .before .consequence .ensures in seen-done m (m .said) (c .before .forced .given .1) refl
-
 pub why-consequence-spec : {M : Type 1} → statement M
-why-consequence-spec = tie.close (tie.spec (λ c κs. search needs) (λ c. search needs) (λ c κs. search needs) (λ c. search needs) returns returns-2)
+why-consequence-spec =
+    tie.close (tie.spec (λ c κs. search needs) (λ c. search needs) (λ c κs. search needs) (λ c. search needs)
+    (λ c.
+    let m = c .before .before .before .before .consequence .ensures in
+    seen-refused m (m .said) (c .before .before .number .given .1) refl (c .refusal .ensures))
+    (λ c. let m = c .before .before .before .consequence .ensures in seen-done m (m .said) (c .before .forced .given .1) refl))

@@ -1,24 +1,17 @@
 -- `c_interface::why_log` meets its contract. Assumes nothing.
 use mathlib.Core.Path.{refl}
 use borrow.Author.Needs.{needs}
-use Rattle.c_interface.specs.Seen.{seenLog}
 use Rattle.c_interface.proofs.SeenLaws.{seen-done, seen-refused}
 use Rattle.c_interface.proofs.why_log.Statement.{statement}
 use Rattle.c_interface.proofs.why_log.Tie as tie
 
-returns : tie.Need-returns
-unfolding seenLog
-returns c =
-    let m = c .before .before .before .before .before .before .log .ensures in
-    seen-refused m (m .said .answered) (c .before .before .number .given .1) refl (c .refusal .ensures)
-
-returns-2 : tie.Need-returns-2
-unfolding seenLog
-returns-2 c =
-    let m = c .before .before .before .before .before .log .ensures in
-    seen-done m (m .said .answered) (c .before .length .given .1) refl
-
 pub why-log-spec : {M : Type 1} → statement M
 why-log-spec =
-    tie.close (tie.spec (λ c κs. search needs) (λ c. search needs) (λ c κs. search needs) (λ c. search needs) (λ c. search needs) (λ c. search needs)
-    (λ c. search needs) returns (λ c. search needs) returns-2)
+    tie.close (tie.spec (λ c κs. search needs) (λ c. search needs) (λ c κs. search needs) (λ c. search needs) (λ c. search needs) (λ c. search needs) (λ c. search needs)
+    (λ c.
+    let m = c .before .before .before .before .before .before .log .ensures in
+    seen-refused m (m .said .answered) (c .before .before .number .given .1) refl (c .refusal .ensures))
+    (λ c. search needs)
+    (λ c.
+    let m = c .before .before .before .before .before .log .ensures in
+    seen-done m (m .said .answered) (c .before .length .given .1) refl))

@@ -12,14 +12,12 @@ cast-goal : tie.Need-cast-goal
 cast-goal c = cast-fits {w = w8} {z = c .before .before .before .before .before .step .given .0 .0 .goal} tt (record { sfits = search needs })
 
 returns : tie.Need-returns
-unfolding outcomeOf
 returns c =
     let m = c .before .before .before .before .before .next-step .ensures in
     seen-refused m (m .said) refl (sym (c .before .before .before .before .step-outcome .ensures) ∙ ap outcomeOf (c .before .before .number .given .1))
     (c .refusal .ensures)
 
 returns-2 : tie.Need-returns-2
-unfolding outcomeOf
 returns-2 c =
     let m = c .before .before .before .before .before .before .before .before .before .next-step .ensures in
     let o = c .before .before .before .before .before .before .before .before .step-outcome .ensures in
