@@ -12,7 +12,7 @@ use Rattle.literals.specs.Literal.{Literal, literalOf}
 use Rattle.literals.specs.declared.LiteralSet.{LiteralSet}
 use Rattle.records.specs.Limits.{maxLog}
 use Rattle.records.specs.Format.{Read, value, refused, OrderBook, readBook}
-use Rattle.book.specs.Answer.{bookAnswer, tableAnswer}
+use Rattle.book.specs.Answer.{bookAnswer}
 use Rattle.book.proofs.NumberLaws.{reader-numbers}
 use Rattle.book.proofs.PlaceLaws.{reader-places}
 use Rattle.problem.specs.Problem.{Problem, problemOf, given}
@@ -30,8 +30,8 @@ use Rattle.engine.specs.declared.StepAnswer.{StepAnswer}
 use Rattle.engine.specs.declared.StepAnswer.the-variants as StepAnswer
 use Rattle.engine.specs.Dimacs.{RefusalOf}
 use Rattle.engine.proofs.DimacsLaws.{dimacs-call}
-use Rattle.c_interface.specs.Seen.{maxPlace, code, numberIn, placeIn, Outcome, done, refusal, returned, behind, asLiterals, byVerdict}
-use Rattle.c_interface.specs.Seen.{seenBook, seenCosts, seenImported, seenModel, seenConsequence, seenStep, seenLog}
+use Rattle.c_interface.specs.Seen.{code, numberIn, placeIn, Outcome, done, refusal, returned, behind, asLiterals, byVerdict}
+use Rattle.c_interface.specs.Seen.{seenImported, seenModel, seenConsequence, seenStep, seenLog}
 use Rattle.c_interface.specs.Calls.{StepSeen}
 use Rattle.c_interface.specs.Told.{Told, AllTold, GoalTold}
 use Rattle.c_interface.specs.declared.StepShown.{StepShown}

@@ -184,8 +184,10 @@ pub extern "C" fn why_next_step(
     cost: &mut u64,
 ) -> u64
     ensures { λ r. ⌜ StepSeen (now (book .entry)) «known_yes» «known_no»
-        (asStep (now (goal .entry)) (now («reasons_yes» .entry)) (now («reasons_no» .entry)) (now («new_yes» .entry)) (now («new_no» .entry)) (now (cost .entry)))
-        (asStep (now (goal .exit)) (now («reasons_yes» .exit)) (now («reasons_no» .exit)) (now («new_yes» .exit)) (now («new_no» .exit)) (now (cost .exit))) r ⌝ }
+        (asStep (now (goal .entry)) (now («reasons_yes» .entry)) (now («reasons_no» .entry)) (now («new_yes» .entry)) (now («new_no» .entry))
+        (now (cost .entry)))
+        (asStep (now (goal .exit)) (now («reasons_yes» .exit)) (now («reasons_no» .exit)) (now («new_yes» .exit)) (now («new_no» .exit))
+        (now (cost .exit))) r ⌝ }
 {
     match step_outcome(engine::next_step(book, known_yes, known_no)) {
         StepOutcome::Refusal { number, place } => refusal(number, place),
