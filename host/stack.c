@@ -1,5 +1,6 @@
-/* How much stack each call takes on the books named, as measured: the call runs on a stack of its own that was filled with one byte before, and what is
- * no longer that byte was used. What starting a thread takes by itself is left out. Needs POSIX threads.
+/* How much stack each call takes on the books named, as they are and with a WN record after each rule, as measured: the call runs on a stack of its own
+ * that was filled with one byte before, and what is no longer that byte was used. What starting a thread takes by itself is left out. Needs POSIX
+ * threads.
  * usage: stack BOOK.. */
 #define _POSIX_C_SOURCE 200809L
 #include <pthread.h>
@@ -10,21 +11,22 @@
 
 #define STACK (1 << 20)
 #define FILLED 0xa5
+#define MOMENT 2099, 12, 30, 1439 /* in force then is every rule without a WN record, and with the one below */
 
 static uint8_t book[WHY_MAX_BOOK + 1], buffer[WHY_MAX_WITHOUT_FACTS], text[1 << 14];
 static size_t length, text_length;
 static uint64_t variables, choices, rules, yes[WHY_MAX_RULES], no[WHY_MAX_RULES], facts_yes, facts_no, a, b, c, d, e;
 static int64_t goal;
-static uint16_t costs[WHY_MAX_CHOICES][2];
+static uint16_t costs[WHY_MAX_CHOICES][2], windows[WHY_MAX_RULES][9];
 
 static void nothing(void) {}
-static void read_book(void) { why_read_book(book, length, &variables, &choices, &rules, yes, no, &facts_yes, &facts_no); }
+static void read_book(void) { why_read_book(book, length, &variables, &choices, &rules, yes, no, windows, &facts_yes, &facts_no); }
 static void read_costs(void) { why_read_costs(book, length, costs); }
 static void read_dimacs(void) { why_read_dimacs(text, text_length, buffer, sizeof buffer, &a); }
-static void model(void) { why_model(book, length, &a); }
-static void consequence(void) { why_consequence(book, length, &a, &b); }
-static void next_step(void) { why_next_step(book, length, facts_yes, facts_no, &goal, &a, &b, &c, &d, &e); }
-static void write_log(void) { why_log(book, length, buffer, sizeof buffer, &a, &b, &c); }
+static void model(void) { why_model(book, length, MOMENT, &a); }
+static void consequence(void) { why_consequence(book, length, MOMENT, &a, &b); }
+static void next_step(void) { why_next_step(book, length, MOMENT, facts_yes, facts_no, &goal, &a, &b, &c, &d, &e); }
+static void write_log(void) { why_log(book, length, MOMENT, buffer, sizeof buffer, &a, &b, &c); }
 
 static const struct {
     const char *name;
@@ -65,6 +67,26 @@ static void write_text(void) {
     text_length = (size_t)(at - (char *)text);
 }
 
+/* Puts a WN record after each rule that has none: all days and minutes that there are. */
+static void add_windows(void) {
+    static const uint8_t window[15] = {'W', 'N', 0x07, 0xd0, 1, 1, 0x08, 0x33, 12, 31, 127, 0, 0, 0x05, 0xa0};
+    static uint8_t wider[WHY_MAX_BOOK + 1];
+    size_t from = 0, to = 0;
+    while (from < length) {
+        uint8_t letter = book[from];
+        size_t size = letter == 'H' ? 5 : letter == 'C' ? 7 : letter == 'R' ? 3 + book[from + 2] : letter == 'W' ? 15 : letter == 'F' ? 3 : 2;
+        memcpy(wider + to, book + from, size);
+        from += size;
+        to += size;
+        if (letter == 'R' && book[from] != 'W') {
+            memcpy(wider + to, window, sizeof window);
+            to += sizeof window;
+        }
+    }
+    memcpy(book, wider, to);
+    length = to;
+}
+
 int main(int count, char **names) {
     size_t most[sizeof calls / sizeof *calls] = {0}, empty = used(nothing);
     for (int i = 1; i < count; i++) {
@@ -72,11 +94,15 @@ int main(int count, char **names) {
         if (!file) return fprintf(stderr, "no book %s\n", names[i]), 2;
         length = fread(book, 1, sizeof book, file);
         fclose(file);
-        read_book();
-        write_text();
-        for (size_t k = 0; k < sizeof calls / sizeof *calls; k++) {
-            size_t now = used(calls[k].call) - empty;
-            if (now > most[k]) most[k] = now;
+        for (int wide = 0; wide < 2; wide++) {
+            if (wide) add_windows();
+            if (why_model(book, length, MOMENT, &a) != WHY_DONE) return fprintf(stderr, "no answer to %s\n", names[i]), 2;
+            read_book();
+            write_text();
+            for (size_t k = 0; k < sizeof calls / sizeof *calls; k++) {
+                size_t now = used(calls[k].call) - empty;
+                if (now > most[k]) most[k] = now;
+            }
         }
     }
     for (size_t k = 0; k < sizeof calls / sizeof *calls; k++) printf("%-16s %6zu bytes of stack\n", calls[k].name, most[k]);

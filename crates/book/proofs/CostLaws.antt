@@ -3,18 +3,20 @@
 use mathlib.Core.Path.{_≡_, refl, ap₂, _∙_}
 use mathlib.Core.Bool.{Bool, true, false, _&&_, false≢true}
 use mathlib.Core.List.{List, [], _∷_}
-use Prim.Native.Nat.{ℕ, _≤_}
+use Prim.Native.Nat.{ℕ, _+_, _≤_}
 use native.Mathlib.Omega.{arith}
 use borrow.Author.Tests.{leb-true}
 use lib.Dec.{leb, eqb}
+use lib.ListN.{length, drop, length-drop}
 use Rattle.records.specs.Limits.{maxCost}
-use Rattle.records.specs.Format.{RecordRead, says, fails, opened, byte, pair, isCost, Cost, CS, costAt, costValues}
+use Rattle.records.specs.Format.{RecordRead, says, fails, value, refused, opened, byte, pair, isCost, Cost, CS, costAt, costValues, costFrom}
 use Rattle.book.specs.Answer.{row}
 use Rattle.records.specs.Contracts.{costAnswer}
 use Rattle.records.specs.declared.costs.CostRead.{CostRead}
 use Rattle.records.specs.declared.costs.CostRead.the-variants as CostRead
 use Rattle.records.proofs.CheckLaws.{Good, says-same, checked-first-says, check-says, opened-says}
-use Rattle.book.proofs.ManyLaws.{Whole}
+use Rattle.book.proofs.ManyLaws.{Whole, partFrom, WholeFrom, begun, begun-refused}
+use Rattle.book.proofs.ValueLaws.{GoodItem, begin-value}
 
 pub cost-fails : (m : RecordRead Cost) {r : CostRead} {number : ℕ} → r ≡ costAnswer m → r ≡ CostRead.Fails number → m ≡ fails number
 unfolding costAnswer
@@ -66,3 +68,25 @@ cost-says due t {r} {y} {n} e f = go (costAt due t) refl e
         let q : n ≡ c .ofNo = cc in
         record { item = c; said = rw (w .0) refl; within = rw (w .0) at (w .1 .within); holds = ap₂ (λ a b. a ∷ b ∷ []) p q }
     go (fails n) d g = let z : _≡_ {A = ℕ} 0 1 = cc in absurd (omega arith)
+
+-- ---- one CS, from a place on
+
+module _ (s : List ℕ) (due place : ℕ) where
+  pub cost-from : {P : Cost → Type 0} → place ≤ length s → Whole P (partFrom s place) 7 (costAt due (partFrom s place))
+      → WholeFrom P s (place + 7) (costFrom s due place)
+  unfolding costFrom
+  cost-from h w = begun (costAt due) s place h w
+
+  pub cost-refused : {number : ℕ} → costAt due (partFrom s place) ≡ fails number → costFrom s due place ≡ refused number place
+  unfolding costFrom
+  cost-refused f = begun-refused (costAt due) s place f
+
+  -- one that was read has 7 bytes
+  pub cost-read : {c : Cost} {next : ℕ} → place ≤ length s → costFrom s due place ≡ value c next → (next ≡ place + 7) × GoodItem GoodCost s c next
+  unfolding costFrom
+  cost-read {c} {next} h e =
+      let f = begin-value place (costAt due (drop place s)) value e in
+      let w = cost-whole due (drop place s) (f .2) in
+      let same : f .0 ≡ c = cc in
+      let after : place + f .1 ≡ next = cc in
+      (omega (arith, w .0, after), record { within = omega (arith, h, w .0, after, w .1 .within, length-drop place s); good = rw same at (w .1 .good) })

@@ -15,7 +15,7 @@ use Rattle.literals.specs.Literal.{Literal, variable, ofByte}
 use Rattle.literals.specs.WithLiteral.{WithLiteral}
 use Rattle.literals.specs.declared.LiteralSet.{LiteralSet}
 use Rattle.records.specs.Format.{RecordRead, says, fails, Read, value, refused, withItem, begin, byte, opened, rising, FA, EN}
-use Rattle.records.specs.Format.{factAt, factValues, atFact, endAt, factsFrom}
+use Rattle.records.specs.Format.{factAt, factValues, begins, endAt, factsFrom}
 use Rattle.records.specs.Contracts.{masks, checkAnswer, factAnswer}
 use Rattle.book.specs.Contracts.{factsAnswer}
 use Rattle.records.specs.declared.mark.Check.{Check}
@@ -26,7 +26,7 @@ use Rattle.book.specs.declared.facts.FactsRead.{FactsRead}
 use Rattle.book.specs.declared.facts.FactsRead.the-variants as FactsRead
 use Rattle.records.proofs.CheckLaws.{Good, says-same, checked-first-says, check-says, opened-says, opened-fails, opened-passes}
 use Rattle.records.proofs.LiteralLaws.{masks-more, RisingHead, rising-head}
-use Rattle.book.proofs.ManyLaws.{partFrom, part-from, Whole, Due, due-refused, so-far-refused, so-far-all, Walked, walked-more}
+use Rattle.book.proofs.ManyLaws.{partFrom, part-from, Whole, begun, begun-refused, begin-then, Due, due-refused, so-far-refused, so-far-all, Walked, walked-more}
 
 -- ---- one FA record
 
@@ -94,7 +94,7 @@ pub facts-enough : (s : List ℕ) (u turns last place : ℕ) → place ≤ lengt
 unfolding factsFrom
 facts-enough s u zero last place h l = absurd (omega arith)
 facts-enough s u (suc turns) last place h l =
-    ap (λ b. cond (atFact (drop place s)) b (begin place (endAt (drop place s)) (λ e next. value [] next)))
+    ap (λ b. cond (begins FA (drop place s)) b (begin place (endAt (drop place s)) (λ e next. value [] next)))
     (after-fact s u last place turns (suc turns) h (λ v p within later. facts-enough s u turns v p within (omega arith)))
 
 module _ (s : List ℕ) (u : ℕ) where
@@ -102,19 +102,20 @@ module _ (s : List ℕ) (u : ℕ) where
   abbrev pub factsLeft : ℕ → ℕ → Read (List Literal)
   factsLeft last place = factsFrom s u (suc (length s)) last place
 
-  module _ (last place : ℕ) {test : Bool} (t : test ≡ atFact (partFrom s place)) where
+  module _ (last place : ℕ) {test : Bool} (t : test ≡ begins FA (partFrom s place)) where
     -- a fact follows
-    facts-due : place ≤ length s → test ≡ true → Due (factsLeft last place) place (factAt u last (partFrom s place)) (λ l next. factsLeft (variable l) next)
+    facts-due : place ≤ length s → test ≡ true
+        → Due (factsLeft last place) (begin place (factAt u last (drop place s)) value) (λ l next. factsLeft (variable l) next)
     unfolding factsFrom
     facts-due h a =
-        let here : atFact (drop place s) ≡ true = rw part-from at (sym t ∙ a) in
+        let here : begins FA (drop place s) ≡ true = rw part-from at (sym t ∙ a) in
         let same = after-fact s u last place (length s) (suc (length s)) h (λ v p within later. facts-enough s u (length s) v p within (omega arith)) in
-        record { due = rw (here, part-from) (sym same) }
+        record { due = rw here (sym same) ∙ begin-then place (factAt u last (drop place s)) _ }
 
     -- where none follows, EN decides
     facts-over : test ≡ false → factsLeft last place ≡ begin place (opened EN 2 (partFrom s place)) (λ e next. value [] next)
     unfolding factsFrom endAt
-    facts-over a = let here : atFact (drop place s) ≡ false = rw part-from at (sym t ∙ a) in rw (here, part-from) refl
+    facts-over a = let here : begins FA (drop place s) ≡ false = rw part-from at (sym t ∙ a) in rw (here, part-from) refl
 
 -- ---- the facts as the code reads them, into a set
 
@@ -123,16 +124,16 @@ module _ (s : List ℕ) (u from : ℕ) where
   abbrev pub FactsWalked : LiteralSet → ℕ → ℕ → Type 0
   FactsWalked set last place = Walked s (factsLeft s u 0 from) (λ done. set ≡ masks done) (factsLeft s u last place) place
 
-  module _ (last place : ℕ) {set : LiteralSet} {test : Bool} (g : FactsWalked set last place) (t : test ≡ atFact (partFrom s place)) where
+  module _ (last place : ℕ) {set : LiteralSet} {test : Bool} (g : FactsWalked set last place) (t : test ≡ begins FA (partFrom s place)) where
     module _ {r : FactRead} (a : test ≡ true) (e : r ≡ factAnswer (factAt u last (partFrom s place))) where
       pub fact-refused : {number : ℕ} → r ≡ FactRead.Fails number → FactsRead.Refused number place ≡ factsAnswer (factsLeft s u 0 from)
       unfolding factsAnswer
-      fact-refused f = rw (so-far-refused (g .so-far) (due-refused (facts-due s u last place t (g .within) a) (fact-fails _ e f))) refl
+      fact-refused f = rw (so-far-refused (g .so-far) (due-refused (facts-due s u last place t (g .within) a) (begun-refused (factAt u last) s place (fact-fails _ e f)))) refl
 
       pub fact-more : {l : Literal} {set′ : LiteralSet} {v : ℕ} → r ≡ FactRead.Says l → u ≤ width → WithLiteral set (toZ w8 (ofZ w8 l)) set′
           → v ≡ variable (toZ w8 (ofZ w8 l)) → FactsWalked set′ v (place + 3)
       fact-more {set′ = set′} f h k d =
-          let w = fact-says u last (partFrom s place) e f in
+          let w = begun (factAt u last) s place (g .within) (fact-says u last (partFrom s place) e f) in
           let byte = fact-handed u last (partFrom s place) e f h ∙ sym (w .holds .0) in
           rw (d, byte) (walked-more {Kept′ = λ done. set′ ≡ masks done} g (facts-due s u last place t (g .within) a) w
           (λ done i. masks-more done i (rw byte at k)))

@@ -11,3 +11,4 @@ pub mod PlaceLaws
 pub mod RuleLaws
 pub mod ValueLaws
 pub mod WellFormed
+pub mod WindowLaws

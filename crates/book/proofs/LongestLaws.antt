@@ -1,4 +1,5 @@
--- No book that is read has more bytes than the longest one: HD has 5, each CS 7, each RL 3 and at most a byte for each literal, each FA 3, and EN 2.
+-- No book that is read has more bytes than the longest one: HD has 5, each CS 7, each RL 3 and at most a byte for each literal, each WN 15, each FA 3,
+-- and EN 2.
 -- Assumes nothing.
 use mathlib.Core.Path.{_≡_}
 use mathlib.Core.Bool.{Bool, true, false, cond}
@@ -7,33 +8,35 @@ use Prim.Native.Nat.{ℕ, zero, suc, _+_, _*_, _-_, _≤_}
 use native.Mathlib.Omega.{arith}
 use lib.ListN.{length, drop}
 use Rattle.literals.specs.Literal.{Literal, variable}
-use Rattle.records.specs.Limits.{maxLiterals, maxBook}
-use Rattle.records.specs.Format.{RecordRead, says, value, withItem, begin, EN, OrderBook}
-use Rattle.records.specs.Format.{costAt, ruleAt, factAt, atFact, endAt, many, factsFrom, readBook}
+use Rattle.records.specs.Limits.{maxLiterals, windowSize, maxBook}
+use Rattle.records.specs.Format.{Read, value, withItem, begin, FA, EN, OrderBook}
+use Rattle.records.specs.Format.{costFrom, ruleFrom, factAt, begins, endAt, many, factsFrom, readBook}
 use Rattle.records.proofs.CheckLaws.{opened-says}
-use Rattle.book.proofs.CostLaws.{cost-whole}
+use Rattle.book.proofs.CostLaws.{cost-read}
 use Rattle.book.proofs.FactLaws.{fact-whole}
 use Rattle.book.proofs.PartLaws.{parts}
-use Rattle.book.proofs.RuleLaws.{rule-whole}
-use Rattle.book.proofs.ValueLaws.{begin-value, first-of}
+use Rattle.book.proofs.RuleLaws.{rule-read}
+use Rattle.book.proofs.ValueLaws.{GoodItem, begin-value, first-of, first-item}
 
--- Records of one kind, each of at most so many bytes.
-module _ {A : Type 0} (recordAt : ℕ → List ℕ → RecordRead A) (s : List ℕ) (most : ℕ)
-    (each-short : (i : ℕ) (t : List ℕ) (a : A) (len : ℕ) → recordAt i t ≡ says a len → len ≤ most) where
-  many-short : (left i place : ℕ) {items : List A} {end : ℕ} → many recordAt s left i place ≡ value items end → end ≤ place + left * most
+-- Items of one kind, each of at most so many bytes.
+module _ {A : Type 0} {P : A → Type 0} (itemFrom : ℕ → ℕ → Read A) (s : List ℕ) (most : ℕ)
+    (each-short : (i place : ℕ) (a : A) (next : ℕ) → place ≤ length s → itemFrom i place ≡ value a next → (next ≤ place + most) × GoodItem P s a next) where
+  many-short : (left i place : ℕ) {items : List A} {end : ℕ} → place ≤ length s → many itemFrom left i place ≡ value items end
+      → (end ≤ place + left * most) × (end ≤ length s)
   unfolding many
-  many-short zero i place {items} {end} e = let here : place ≡ end = cc in omega arith
-  many-short (suc left) i place {items} {end} e =
-      let f = first-of place (recordAt i (drop place s)) (λ a next. many recordAt s left (suc i) next) e in
-      let g = many-short left (suc i) (place + f .len) (f .others) in
-      omega (arith, each-short i (drop place s) (f .item) (f .len) (f .said), g)
+  many-short zero i place {items} {end} h e = let here : place ≡ end = cc in (omega arith, omega arith)
+  many-short (suc left) i place {items} {end} h e =
+      let f = first-item (itemFrom i place) (λ a next. many itemFrom left (suc i) next) e in
+      let w = each-short i place (f .item) (f .next) h (f .said) in
+      let g = many-short left (suc i) (f .next) (w .1 .within) (f .others) in
+      (omega (arith, w .0, g .0), g .1)
 
 -- The facts rise over the choices after `last`, so that there is at most one for each of these.
 facts-short : (s : List ℕ) (u turns last place : ℕ) (ls : List Literal) (end : ℕ) → last ≤ u → factsFrom s u turns last place ≡ value ls end
     → end ≤ place + (u - last) * 3 + 2
 unfolding factsFrom endAt
 facts-short s u zero last place ls end h e = let z : _≡_ {A = ℕ} 0 1 = cc in absurd (omega arith)
-facts-short s u (suc turns) last place ls end h e = go (atFact (drop place s)) e (λ v p rest. facts-short s u turns v p rest end)
+facts-short s u (suc turns) last place ls end h e = go (begins FA (drop place s)) e (λ v p rest. facts-short s u turns v p rest end)
   where
     go : (a : Bool)
         → cond a (begin place (factAt u last (drop place s)) (λ l p. withItem l (factsFrom s u turns (variable l) p)))
@@ -57,8 +60,10 @@ read-short s {b} e =
     let h = p .header-good .good in
     let u = b .header .choices in
     let r = b .header .rules in
-    let cs = many-short costAt s 7 (λ i t c len q. omega (arith, cost-whole i t q .0)) u 1 5 (p .costs-read) in
     let v = b .header .variables in
-    let rs = many-short (λ i. ruleAt v) s (3 + maxLiterals) (λ i t ls len q. rule-whole v t q .0) r 1 (p .rules-from) (p .rules-read) in
+    let cs = many-short (costFrom s) s 7 (λ i place c next h q. let k = cost-read s i place h q in (omega (arith, k .0), k .1)) u 1 5 (p .header-good .within)
+    (p .costs-read) in
+    let rs = many-short (λ i. ruleFrom s v) s (3 + maxLiterals + windowSize) (λ i place k next h q. rule-read s v place h q) r 1 (p .rules-from) (cs .1)
+    (p .rules-read) in
     let fs = facts-short s u _ 0 (p .facts-from) (b .facts) (p .facts-end) (omega arith) (p .facts-read) in
-    omega (arith, p .nothing-after, h .few-choices, h .few-rules, cs, rs, fs)
+    omega (arith, p .nothing-after, h .few-choices, h .few-rules, cs .0, rs .0, fs)

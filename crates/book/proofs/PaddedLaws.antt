@@ -9,7 +9,7 @@ use lib.ListN.{length, set, replicate, length-append, length-map}
 use lib.Seq.{set-at, append-snoc}
 use Rattle.book.specs.Answer.{padded}
 
-padded-snoc : {A : Type 0} (d : A) (n : ℕ) (xs : List A) (x : A) → length xs < n → set (padded d n xs) (length xs) x ≡ padded d n (xs ++ (x ∷ []))
+pub padded-snoc : {A : Type 0} (d : A) (n : ℕ) (xs : List A) (x : A) → length xs < n → set (padded d n xs) (length xs) x ≡ padded d n (xs ++ (x ∷ []))
 unfolding padded
 padded-snoc d n xs x h =
     let left : n - length xs ≡ suc (n - length (xs ++ (x ∷ []))) = omega (arith, length-append xs (x ∷ [])) in

@@ -8,7 +8,7 @@ use native.Mathlib.Omega.{arith}
 use borrow.Author.Tests.{ltb-false}
 use lib.Dec.{ltb}
 use lib.ListN.{length}
-use Rattle.records.specs.Format.{Read, value, refused, andThen, OrderBook, headerAt, costAt, ruleAt, many, factsFrom, fromRules, readBook}
+use Rattle.records.specs.Format.{Read, value, refused, andThen, OrderBook, headerAt, costFrom, ruleFrom, many, factsFrom, fromRules, readBook}
 use Rattle.book.specs.Answer.{bookAnswer, maskedBook}
 use Rattle.book.specs.declared.Reading.{Reading}
 use Rattle.book.specs.declared.Verdict.the-variants as Verdict
@@ -20,9 +20,9 @@ use Rattle.book.proofs.ValueLaws.{begin-value, then-value}
 pub record Parts (s : List ℕ) (b : OrderBook) : Type 0 where
   pub header-good : Good GoodHeader s (b .header) 5
   pub rules-from : ℕ
-  pub costs-read : many costAt s (b .header .choices) 1 5 ≡ value (b .costs) rules-from
+  pub costs-read : many (costFrom s) (b .header .choices) 1 5 ≡ value (b .costs) rules-from
   pub facts-from : ℕ
-  pub rules-read : many (λ i. ruleAt (b .header .variables)) s (b .header .rules) 1 rules-from ≡ value (b .rules) facts-from
+  pub rules-read : many (λ i. ruleFrom s (b .header .variables)) (b .header .rules) 1 rules-from ≡ value (b .rules) facts-from
   pub facts-end : ℕ
   pub facts-read : factsFrom s (b .header .choices) (suc (length s)) 0 facts-from ≡ value (b .facts) facts-end
   pub nothing-after : length s ≤ facts-end
@@ -35,10 +35,10 @@ book-ends false a p e = (refl, cc)
 pub parts : (s : List ℕ) {b : OrderBook} {end : ℕ} → readBook s ≡ value b end → Parts s b
 unfolding readBook fromRules
 parts s e =
-    let h = begin-value 0 (headerAt s) (λ h place. andThen (many costAt s (h .choices) 1 place) (λ costs place. fromRules s h costs place)) e in
+    let h = begin-value 0 (headerAt s) (λ h place. andThen (many (costFrom s) (h .choices) 1 place) (λ costs place. fromRules s h costs place)) e in
     let w = header-whole s (h .2) in
-    let c = then-value (many costAt s (h .0 .choices) 1 5) _ (rw (w .0) at (h .3)) in
-    let r = then-value (many (λ i. ruleAt (h .0 .variables)) s (h .0 .rules) 1 (c .1)) _ (c .3) in
+    let c = then-value (many (costFrom s) (h .0 .choices) 1 5) _ (rw (w .0) at (h .3)) in
+    let r = then-value (many (λ i. ruleFrom s (h .0 .variables)) (h .0 .rules) 1 (c .1)) _ (c .3) in
     let f = then-value (factsFrom s (h .0 .choices) (suc (length s)) 0 (r .1)) _ (r .3) in
     let e = book-ends (ltb (f .1) (length s)) _ (f .1) (f .3) in
     rw (← (e .1)) (record {

@@ -8,13 +8,14 @@ use native.Mathlib.Omega.{arith}
 use lib.Dec.{ltb}
 use lib.ListN.{length, drop, length-drop}
 use Rattle.literals.specs.Literal.{variable}
-use Rattle.records.specs.Format.{RecordRead, says, fails, Read, value, refused, begin, andThen, withItem, OrderBook, EN}
-use Rattle.records.specs.Format.{headerAt, costAt, ruleAt, factAt, atFact, endAt, many, factsFrom, fromRules, readBook}
+use Rattle.records.specs.Format.{RecordRead, says, fails, Read, value, refused, begin, andThen, withItem, Rule, OrderBook, FA, WN, EN}
+use Rattle.records.specs.Format.{begins, headerAt, costAt, costFrom, ruleAt, windowAt, windowFrom, ruleFrom, factAt, endAt, many, factsFrom, fromRules, readBook}
 use Rattle.records.proofs.CheckLaws.{opened-says}
 use Rattle.book.proofs.CostLaws.{cost-whole}
 use Rattle.book.proofs.FactLaws.{fact-whole}
 use Rattle.book.proofs.HeaderLaws.{header-whole}
 use Rattle.book.proofs.RuleLaws.{rule-whole}
+use Rattle.book.proofs.WindowLaws.{window-whole}
 
 -- Records that end, or are refused, at a place up to a limit.
 data Placed {A : Type 0} (limit : ℕ) : Read A → Type 0 where
@@ -47,19 +48,34 @@ module _ {A : Type 0} {limit : ℕ} where
 
 -- ---- the records of a book
 
-module _ {A : Type 0} (recordAt : ℕ → List ℕ → RecordRead A) (s : List ℕ)
-    (inside : (i : ℕ) (t : List ℕ) (a : A) (len : ℕ) → recordAt i t ≡ says a len → len ≤ length t) where
-  many-placed : (left i place : ℕ) → place ≤ length s → Placed (length s) (many recordAt s left i place)
-  unfolding many
-  many-placed zero i place h = ends-at h
-  many-placed (suc left) i place h =
-      begin-placed s place (recordAt i (drop place s)) h (inside i (drop place s)) (λ a p k. with-item-placed a (many-placed left (suc i) p k))
+module _ (s : List ℕ) where
+  cost-placed : (due place : ℕ) → place ≤ length s → Placed (length s) (costFrom s due place)
+  unfolding costFrom
+  cost-placed due place h = begin-placed s place (costAt due (drop place s)) h (λ c len e. cost-whole due (drop place s) e .1 .within) (λ c p k. ends-at k)
+
+  window-placed : (place : ℕ) → place ≤ length s → Placed (length s) (windowFrom s place)
+  unfolding windowFrom
+  window-placed place h =
+      cond-placed (begins WN (drop place s))
+      (begin-placed s place (windowAt (drop place s)) h (λ w len e. window-whole (drop place s) e .1) (λ w p k. ends-at k)) (ends-at h)
+
+  rule-placed : (n place : ℕ) → place ≤ length s → Placed (length s) (ruleFrom s n place)
+  unfolding ruleFrom
+  rule-placed n place h =
+      begin-placed s place (ruleAt n (drop place s)) h (λ ls len e. rule-whole n (drop place s) e .1 .within) (λ ls p k.
+      then-placed s (window-placed p k) (λ a q l. ends-at l))
+
+  module _ {A : Type 0} (itemFrom : ℕ → ℕ → Read A) (inside : (i place : ℕ) → place ≤ length s → Placed (length s) (itemFrom i place)) where
+    many-placed : (left i place : ℕ) → place ≤ length s → Placed (length s) (many itemFrom left i place)
+    unfolding many
+    many-placed zero i place h = ends-at h
+    many-placed (suc left) i place h = then-placed s (inside i place h) (λ a p k. with-item-placed a (many-placed left (suc i) p k))
 
 facts-placed : (s : List ℕ) (u turns last place : ℕ) → place ≤ length s → Placed (length s) (factsFrom s u turns last place)
 unfolding factsFrom endAt
 facts-placed s u zero last place h = refused-at h
 facts-placed s u (suc turns) last place h =
-    cond-placed (atFact (drop place s))
+    cond-placed (begins FA (drop place s))
     (begin-placed s place (factAt u last (drop place s)) h (λ l len e. fact-whole u last (drop place s) e .1 .within)
     (λ l p k. with-item-placed l (facts-placed s u turns (variable l) p k)))
     (begin-placed s place (endAt (drop place s)) h (λ t len e. let o = opened-says EN 2 (drop place s) e in omega (arith, o .0, o .1)) (λ t p k. ends-at k))
@@ -68,8 +84,8 @@ book-placed : (s : List ℕ) → Placed (length s) (readBook s)
 unfolding readBook fromRules
 book-placed s =
     begin-placed s 0 (headerAt s) (omega arith) (λ h len e. header-whole s e .1 .within) (λ h p k.
-    then-placed s (many-placed costAt s (λ i t c len e. cost-whole i t e .1 .within) (h .choices) 1 p k) (λ cs q l.
-    then-placed s (many-placed (λ i. ruleAt (h .variables)) s (λ i t r len e. rule-whole (h .variables) t e .1 .within) (h .rules) 1 q l) (λ rs r m.
+    then-placed s (many-placed s (costFrom s) (cost-placed s) (h .choices) 1 p k) (λ cs q l.
+    then-placed s (many-placed s (λ i. ruleFrom s (h .variables)) (λ i. rule-placed s (h .variables)) (h .rules) 1 q l) (λ rs r m.
     then-placed s (facts-placed s (h .choices) (suc (length s)) 0 r m) (λ fs e n. cond-placed (ltb e (length s)) (refused-at n) (ends-at n)))))
 
 pub reader-places : (s : List ℕ) {number place : ℕ} → readBook s ≡ refused number place → place ≤ length s

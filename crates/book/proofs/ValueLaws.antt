@@ -4,9 +4,8 @@ use mathlib.Core.Path.{_≡_, refl, ap}
 use mathlib.Core.List.{List, [], _∷_}
 use Prim.Native.Nat.{ℕ, zero, suc, _+_, _≤_}
 use native.Mathlib.Omega.{arith}
-use lib.ListN.{length, drop, length-drop}
+use lib.ListN.{length}
 use Rattle.records.specs.Format.{RecordRead, says, fails, Read, value, refused, begin, andThen, withItem, many}
-use Rattle.records.proofs.CheckLaws.{Good}
 
 module _ {A B : Type 0} where
   pub begin-value : (place : ℕ) (r : RecordRead A) (next : A → ℕ → Read B) {b : B} {end : ℕ} → begin place r next ≡ value b end
@@ -41,6 +40,22 @@ module _ {A : Type 0} where
       let m = item-value (f .0) (after (f .0) (place + f .1)) (f .3) in
       record { item = f .0; len = f .1; rest = m .0; said = f .2; others = m .1; all = m .2 }
 
+  pub record FirstItem (r : Read A) (after : A → ℕ → Read (List A)) (items : List A) (end : ℕ) : Type 0 where
+    pub item : A
+    pub next : ℕ
+    pub rest : List A
+    pub said : r ≡ value item next
+    pub others : after item next ≡ value rest end
+    pub all : item ∷ rest ≡ items
+
+  -- the first item of a row that came to a value
+  pub first-item : (r : Read A) (after : A → ℕ → Read (List A)) {items : List A} {end : ℕ}
+      → andThen r (λ a next. withItem a (after a next)) ≡ value items end → FirstItem r after items end
+  first-item r after e =
+      let f = then-value r (λ a next. withItem a (after a next)) e in
+      let m = item-value (f .0) (after (f .0) (f .1)) (f .3) in
+      record { item = f .0; next = f .1; rest = m .0; said = f .2; others = m .1; all = m .2 }
+
   -- Each item of a list has a property.
   abbrev pub Each : (A → Type 0) → List A → Type 0
   Each P [] = Unit {0}
@@ -52,9 +67,14 @@ pub record AllGood {A : Type 0} (s : List ℕ) (P : A → Type 0) (left : ℕ) (
   pub each : Each P items
   pub within : end ≤ length s
 
-module _ {A : Type 0} (recordAt : ℕ → List ℕ → RecordRead A) (s : List ℕ) (P : A → Type 0)
-    (each-good : (i : ℕ) (t : List ℕ) (a : A) (len : ℕ) → recordAt i t ≡ says a len → Good P t a len) where
-  pub many-good : (left i place : ℕ) {items : List A} {end : ℕ} → place ≤ length s → many recordAt s left i place ≡ value items end
+-- An item that was read is good, and the place after it is within the bytes.
+pub record GoodItem {A : Type 0} (P : A → Type 0) (s : List ℕ) (a : A) (next : ℕ) : Type 0 where
+  pub within : next ≤ length s
+  pub good : P a
+
+module _ {A : Type 0} (itemFrom : ℕ → ℕ → Read A) (s : List ℕ) (P : A → Type 0)
+    (each-good : (i place : ℕ) (a : A) (next : ℕ) → place ≤ length s → itemFrom i place ≡ value a next → GoodItem P s a next) where
+  pub many-good : (left i place : ℕ) {items : List A} {end : ℕ} → place ≤ length s → many itemFrom left i place ≡ value items end
       → AllGood s P left items end
   unfolding many
   many-good zero i place {items} {end} h e =
@@ -62,8 +82,7 @@ module _ {A : Type 0} (recordAt : ℕ → List ℕ → RecordRead A) (s : List �
       let here : place ≡ end = cc in
       rw (← none) (record { counted = refl; each = tt; within = omega arith })
   many-good (suc left) i place h e =
-      let f = first-of place (recordAt i (drop place s)) (λ a next. many recordAt s left (suc i) next) e in
-      let w = each-good i (drop place s) (f .item) (f .len) (f .said) in
-      let k = simp length-drop at (w .within) in
-      let g = many-good left (suc i) (place + f .len) (omega arith) (f .others) in
+      let f = first-item (itemFrom i place) (λ a next. many itemFrom left (suc i) next) e in
+      let w = each-good i place (f .item) (f .next) h (f .said) in
+      let g = many-good left (suc i) (f .next) (w .within) (f .others) in
       rw (← (f .all)) (record { counted = ap suc (g .counted); each = (w .good, g .each); within = g .within })

@@ -8,12 +8,12 @@ use native.Mathlib.Omega.{arith}
 use lib.ListN.{length, drop}
 use Rattle.literals.specs.Literal.{Literal, variable}
 use Rattle.records.specs.Limits.{maxVariables, maxChoices, maxRules}
-use Rattle.records.specs.Format.{value, withItem, begin, rising, OrderBook, costAt, ruleAt, factAt, atFact, endAt, factsFrom, readBook}
-use Rattle.book.proofs.CostLaws.{GoodCost, cost-whole}
+use Rattle.records.specs.Format.{value, withItem, begin, rising, Rule, OrderBook, costFrom, ruleFrom, factAt, begins, FA, endAt, factsFrom, readBook}
+use Rattle.book.proofs.CostLaws.{GoodCost, cost-read}
 use Rattle.book.proofs.FactLaws.{fact-whole}
 use Rattle.records.proofs.LiteralLaws.{rising-none, rising-more}
 use Rattle.book.proofs.PartLaws.{parts}
-use Rattle.book.proofs.RuleLaws.{LiteralsRise, rule-whole}
+use Rattle.book.proofs.RuleLaws.{LiteralsRise, rule-read}
 use Rattle.book.proofs.ValueLaws.{Each, many-good, begin-value, first-of}
 
 -- ---- the facts
@@ -21,7 +21,7 @@ use Rattle.book.proofs.ValueLaws.{Each, many-good, begin-value, first-o
 facts-good : (s : List ℕ) (u turns last place : ℕ) (ls : List Literal) (end : ℕ) → factsFrom s u turns last place ≡ value ls end → rising u last ls ≡ true
 unfolding factsFrom
 facts-good s u zero last place ls end e = let z : _≡_ {A = ℕ} 0 1 = cc in absurd (omega arith)
-facts-good s u (suc turns) last place ls end e = go (atFact (drop place s)) e (λ v p rest. facts-good s u turns v p rest end)
+facts-good s u (suc turns) last place ls end e = go (begins FA (drop place s)) e (λ v p rest. facts-good s u turns v p rest end)
   where
     go : (a : Bool)
         → cond a (begin place (factAt u last (drop place s)) (λ l p. withItem l (factsFrom s u turns (variable l) p)))
@@ -46,16 +46,17 @@ pub record WellFormed (b : OrderBook) : Type 0 where
   pub cost-count : length (b .costs) ≡ b .header .choices
   pub costs-good : Each GoodCost (b .costs)
   pub rule-count : length (b .rules) ≡ b .header .rules
-  pub rules-rise : Each (LiteralsRise (b .header .variables)) (b .rules)
+  pub rules-rise : Each (λ (r : Rule). LiteralsRise (b .header .variables) (r .literals)) (b .rules)
   pub facts-rise : LiteralsRise (b .header .choices) (b .facts)
 
 pub well-formed : (s : List ℕ) {b : OrderBook} {end : ℕ} → readBook s ≡ value b end → WellFormed b
 well-formed s {b} e =
     let p = parts s e in
     let h = p .header-good .good in
-    let cs = many-good costAt s GoodCost (λ i t c len e. cost-whole i t e .1) (b .header .choices) 1 5 (p .header-good .within) (p .costs-read) in
-    let rs = many-good (λ i. ruleAt (b .header .variables)) s (LiteralsRise (b .header .variables)) (λ i t ls len e. rule-whole (b .header .variables) t e .1)
-    (b .header .rules) 1 (p .rules-from) (cs .within) (p .rules-read) in
+    let n = b .header .variables in
+    let cs = many-good (costFrom s) s GoodCost (λ i place c next h e. cost-read s i place h e .1) (b .header .choices) 1 5 (p .header-good .within) (p .costs-read) in
+    let rs = many-good (λ i. ruleFrom s n) s (λ (r : Rule). LiteralsRise n (r .literals)) (λ i place r next h e. rule-read s n place h e .1) (b .header .rules) 1
+    (p .rules-from) (cs .within) (p .rules-read) in
     record {
       few-variables = h .few-variables;
       few-choices = h .few-choices;

@@ -4,8 +4,10 @@ use Prim.Native.Nat.{ℕ, _-_}
 use lib.ListN.{length, replicate}
 use Rattle.literals.specs.Truth.{yesMask, noMask}
 use Rattle.records.specs.Limits.{maxRules, maxChoices}
-use Rattle.records.specs.Format.{Read, value, refused, Cost, OrderBook}
+use Rattle.dates.specs.declared.Applies.the-variants as Applies
+use Rattle.records.specs.Format.{Read, value, refused, Cost, Rule, OrderBook}
 use Rattle.records.specs.declared.Book.{Book}
+use Rattle.records.specs.declared.RuleWindow.{RuleWindow}
 use Rattle.book.specs.declared.Reading.{Reading}
 use Rattle.book.specs.declared.Verdict.{Verdict}
 use Rattle.book.specs.declared.Verdict.the-variants as Verdict
@@ -15,20 +17,44 @@ module _ {A : Type 0} where
   unfoldable pub padded : A → ℕ → List A → List A
   padded d n xs = xs ++ replicate (n - length xs) d
 
+-- What is kept of a rule: the mask of the variables that it says yes of, that of those that it says no of, and when it applies.
+abbrev pub ruleYes : Rule → ℕ
+ruleYes r = yesMask (r .literals)
+
+abbrev pub ruleNo : Rule → ℕ
+ruleNo r = noMask (r .literals)
+
+abbrev pub ruleWindow : Rule → RuleWindow
+ruleWindow r = record { applies = r .applies }
+
+-- What stands in the windows after the last rule.
+abbrev pub noWindow : RuleWindow
+noWindow = record { applies = Applies.Always }
+
 -- The book that says nothing.
 abbrev pub emptyBook : Book
 emptyBook =
-    record { variables = 0; choices = 0; rules = 0; yes = padded 0 maxRules []; no = padded 0 maxRules []; «facts_yes» = 0; «facts_no» = 0 }
+    record {
+      variables = 0;
+      choices = 0;
+      rules = 0;
+      yes = padded 0 maxRules [];
+      no = padded 0 maxRules [];
+      windows = padded noWindow maxRules [];
+      «facts_yes» = 0;
+      «facts_no» = 0;
+    }
 
--- An order book as it is kept, its rules and facts as masks.
+-- An order book as it is kept, its rules and facts as masks, the windows beside the rules.
 abbrev pub maskedBook : OrderBook → Book
 maskedBook b =
     record {
       variables = b .header .variables;
       choices = b .header .choices;
       rules = b .header .rules;
-      yes = padded 0 maxRules (map yesMask (b .rules));
-      no = padded 0 maxRules (map noMask (b .rules));
+      yes = padded 0 maxRules (map ruleYes (b .rules));
+      no = padded 0 maxRules (map ruleNo (b .rules));
+      windows = padded noWindow maxRules (map ruleWindow (b .rules));
       «facts_yes» = yesMask (b .facts);
       «facts_no» = noMask (b .facts);
     }

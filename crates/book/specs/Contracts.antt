@@ -3,13 +3,17 @@
 use mathlib.Core.List.{List, [], map}
 use Prim.Native.Nat.{ℕ}
 use Rattle.literals.specs.Literal.{Literal}
-use Rattle.literals.specs.Truth.{yesMask, noMask}
+use Rattle.dates.specs.declared.Applies.{Applies}
 use Rattle.records.specs.Limits.{maxRules}
-use Rattle.records.specs.Format.{Read, value, refused, Header}
+use Rattle.records.specs.Format.{Read, value, refused, Header, Rule}
 use Rattle.records.specs.Contracts.{masks}
-use Rattle.book.specs.Answer.{padded}
+use Rattle.book.specs.Answer.{padded, ruleYes, ruleNo, ruleWindow, noWindow}
 use Rattle.book.specs.declared.PlaceAfter.{PlaceAfter}
 use Rattle.book.specs.declared.PlaceAfter.the-variants as PlaceAfter
+use Rattle.book.specs.declared.rules.WindowFrom.{WindowFrom}
+use Rattle.book.specs.declared.rules.WindowFrom.the-variants as WindowFrom
+use Rattle.book.specs.declared.rules.RuleFrom.{RuleFrom}
+use Rattle.book.specs.declared.rules.RuleFrom.the-variants as RuleFrom
 use Rattle.book.specs.declared.rules.RulesRead.{RulesRead}
 use Rattle.book.specs.declared.facts.FactsRead.{FactsRead}
 use Rattle.book.specs.declared.facts.FactsRead.the-variants as FactsRead
@@ -18,10 +22,32 @@ unfoldable pub placeAnswer : {A : Type 0} → Read A → PlaceAfter
 placeAnswer (value a place) = PlaceAfter.At place
 placeAnswer (refused number place) = PlaceAfter.Refused number place
 
--- The rules' masks in two arrays, zeros after the last; no rule where a record is refused.
-unfoldable pub rulesAnswer : Read (List (List Literal)) → RulesRead
-rulesAnswer (value rs place) = record { after = PlaceAfter.At place; yes = padded 0 maxRules (map yesMask rs); no = padded 0 maxRules (map noMask rs) }
-rulesAnswer (refused number place) = record { after = PlaceAfter.Refused number place; yes = padded 0 maxRules []; no = padded 0 maxRules [] }
+unfoldable pub windowFromAnswer : Read Applies → WindowFrom
+windowFromAnswer (value applies place) = WindowFrom.Says applies place
+windowFromAnswer (refused number place) = WindowFrom.Refused number place
+
+unfoldable pub ruleFromAnswer : Read Rule → RuleFrom
+ruleFromAnswer (value r place) = RuleFrom.Says (masks (r .literals)) (r .applies) place
+ruleFromAnswer (refused number place) = RuleFrom.Refused number place
+
+-- The rules' masks in two arrays, zeros after the last, and their windows in a third.
+abbrev pub keptRules : PlaceAfter → List Rule → RulesRead
+keptRules after rs =
+    record {
+      after = after;
+      yes = padded 0 maxRules (map ruleYes rs);
+      no = padded 0 maxRules (map ruleNo rs);
+      windows = padded noWindow maxRules (map ruleWindow rs);
+    }
+
+-- No rule.
+abbrev pub withoutRules : PlaceAfter → RulesRead
+withoutRules after = keptRules after []
+
+-- The rules, or none where a record is refused.
+unfoldable pub rulesAnswer : Read (List Rule) → RulesRead
+rulesAnswer (value rs place) = keptRules (PlaceAfter.At place) rs
+rulesAnswer (refused number place) = withoutRules (PlaceAfter.Refused number place)
 
 unfoldable pub factsAnswer : Read (List Literal) → FactsRead
 factsAnswer (value ls place) = FactsRead.Says (masks ls) place

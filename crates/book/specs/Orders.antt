@@ -1,6 +1,8 @@
 -- The starred orders at the counter (document 01) and three more, as bytes. Costs are 5 for yes and 9 for no unless said.
-use mathlib.Core.List.{List, [], _∷_}
-use Prim.Native.Nat.{ℕ}
+use mathlib.Core.List.{List, [], _∷_, _++_}
+use Prim.Native.Nat.{ℕ, _/_, _%_}
+use Rattle.dates.specs.declared.Date.{Date}
+use Rattle.dates.specs.declared.Window.{Window}
 
 -- a. No bytes.
 unfoldable pub order-a : List ℕ
@@ -101,3 +103,34 @@ order-higher-goal =
     0x48 ∷ 0x44 ∷ 0x05 ∷ 0x05 ∷ 0x02 ∷ 0x43 ∷ 0x53 ∷ 0x01 ∷ 0x00 ∷ 0x01 ∷ 0x00 ∷ 0x05 ∷ 0x43 ∷ 0x53 ∷ 0x02 ∷ 0x00 ∷ 0x02 ∷ 0x00 ∷ 0x06 ∷
     0x43 ∷ 0x53 ∷ 0x03 ∷ 0x00 ∷ 0x03 ∷ 0x00 ∷ 0x07 ∷ 0x43 ∷ 0x53 ∷ 0x04 ∷ 0x00 ∷ 0x04 ∷ 0x00 ∷ 0x08 ∷ 0x43 ∷ 0x53 ∷ 0x05 ∷ 0x00 ∷ 0x04 ∷ 0x00 ∷ 0x08 ∷
     0x52 ∷ 0x4C ∷ 0x03 ∷ 0xFF ∷ 0xFE ∷ 0x04 ∷ 0x52 ∷ 0x4C ∷ 0x02 ∷ 0xFD ∷ 0x05 ∷ 0x46 ∷ 0x41 ∷ 0x01 ∷ 0x46 ∷ 0x41 ∷ 0x02 ∷ 0x46 ∷ 0x41 ∷ 0x03 ∷ 0x45 ∷ 0x4E ∷ []
+
+-- ---- windows (document 02, E7)
+
+-- U = V = 1, so many rules, of which (1) is the only one, what follows, and EN. What follows no rule begins at 12, what follows the rule at 16.
+unfoldable pub no-rule : List ℕ → List ℕ
+no-rule bytes = 0x48 ∷ 0x44 ∷ 0x01 ∷ 0x01 ∷ 0x00 ∷ 0x43 ∷ 0x53 ∷ 0x01 ∷ 0x00 ∷ 0x05 ∷ 0x00 ∷ 0x09 ∷ bytes ++ (0x45 ∷ 0x4E ∷ [])
+
+unfoldable pub one-rule : List ℕ → List ℕ
+one-rule bytes =
+    0x48 ∷ 0x44 ∷ 0x01 ∷ 0x01 ∷ 0x01 ∷ 0x43 ∷ 0x53 ∷ 0x01 ∷ 0x00 ∷ 0x05 ∷ 0x00 ∷ 0x09 ∷ 0x52 ∷ 0x4C ∷ 0x01 ∷ 0x01 ∷ bytes ++ (0x45 ∷ 0x4E ∷ [])
+
+-- A day, and a window of Monday to Friday, 9:00 to 17:30.
+abbrev pub date : ℕ → ℕ → ℕ → Date
+date y m d = record { year = y; month = m; day = d }
+
+abbrev pub between-days : Date → Date → Window
+between-days first end = record { «first_day» = first; «end_day» = end; weekdays = 0x1F; «first_minute» = 540; «end_minute» = 1050 }
+
+-- The season of the rows: from 1 March 2024 on, before 1 November 2024.
+abbrev pub season : Window
+season = between-days (date 2024 3 1) (date 2024 11 1)
+
+-- The bytes of WN.
+unfoldable pub window-bytes : Window → List ℕ
+window-bytes w = 0x57 ∷ 0x4E ∷ day (w .«first_day») ++ (day (w .«end_day») ++ (w .weekdays ∷ two (w .«first_minute») ++ two (w .«end_minute»)))
+  where
+    two : ℕ → List ℕ
+    two n = n / 256 ∷ n % 256 ∷ []
+
+    day : Date → List ℕ
+    day d = two (d .year) ++ (d .month ∷ d .day ∷ [])

@@ -3,7 +3,7 @@ ghost use mathlib.Core.Path.{_≡_};
 ghost use Prim.Native.Nat.{_≤_};
 ghost use lib.ListN.{length};
 ghost use Rattle.records.specs.Limits.{maxChoices};
-ghost use Rattle.records.specs.Format.{costAt, many};
+ghost use Rattle.records.specs.Format.{costFrom, many};
 ghost use Rattle.book.specs.Answer.{tableAnswer};
 ghost use Rattle.book.specs.Contracts.{placeAnswer};
 use crate::PlaceAfter;
@@ -13,7 +13,7 @@ use records::costs::CostRead;
 // The CS records of the choices, from a place on, are checked.
 pub fn check_costs(s: &[u8], choices: usize, from: usize) -> PlaceAfter
     requires { ⌜ from ≤ length (now s) ⌝ }
-    ensures { λ r. ⌜ r ≡ placeAnswer (many costAt (now (s .entry)) choices 1 from) ⌝ }
+    ensures { λ r. ⌜ r ≡ placeAnswer (many (costFrom (now (s .entry))) choices 1 from) ⌝ }
 {
     let mut place = from;
     let mut i = 0;
@@ -36,7 +36,7 @@ pub fn check_costs(s: &[u8], choices: usize, from: usize) -> PlaceAfter
 pub fn cost_table(s: &[u8], choices: usize, from: usize) -> [[u16; 2]; Book::MAX_CHOICES]
     requires { ⌜ choices ≤ maxChoices ⌝ }
     requires { ⌜ from ≤ length (now s) ⌝ }
-    ensures { λ r. ⌜ r ≡ tableAnswer (λ cs. cs) (many costAt (now (s .entry)) choices 1 from) ⌝ }
+    ensures { λ r. ⌜ r ≡ tableAnswer (λ cs. cs) (many (costFrom (now (s .entry))) choices 1 from) ⌝ }
 {
     let mut table = [[0u16; 2]; Book::MAX_CHOICES];
     let mut place = from;

@@ -25,7 +25,7 @@ pub fn read_facts(s: &[u8], u: usize, from: usize) -> FactsRead
     let mut set = LiteralSet { yes: 0, no: 0 };
     let mut last: usize = 0;
     let mut place = from;
-    while facts::at_fact(&s[place..]) {
+    while mark::begins(&s[place..], mark::FA) {
         match facts::read_fact(&s[place..], u, last) {
             FactRead::Fails(number) => return FactsRead::Refused { number, place },
             FactRead::Says(l) => {

@@ -13,8 +13,10 @@ mod costs;
 mod facts;
 mod rules;
 
+use dates::Applies;
 use facts::FactsRead;
 pub use records::Book;
+use records::RuleWindow;
 use records::header;
 use records::header::HeaderRead;
 
@@ -46,13 +48,16 @@ fn empty_book() -> Book
         rules: 0,
         yes: [0; Book::MAX_RULES],
         no: [0; Book::MAX_RULES],
+        windows: [RuleWindow {
+            applies: Applies::Always,
+        }; Book::MAX_RULES],
         facts_yes: 0,
         facts_no: 0,
     }
 }
 
 // The answer to bytes that are refused.
-fn refuse(number: u8, place: usize) -> Reading
+pub fn refuse(number: u8, place: usize) -> Reading
     ensures { λ r. ⌜ r ≡ record { verdict = Verdict.Refused number place; book = emptyBook } ⌝ }
 {
     Reading {
@@ -99,6 +104,7 @@ fn read_from_rules(s: &[u8], variables: usize, choices: usize, rules: usize, fro
                 }
                 let yes = rules_read.yes;
                 let no = rules_read.no;
+                let windows = rules_read.windows;
                 Reading {
                     verdict: Verdict::Accepted,
                     book: Book {
@@ -107,6 +113,7 @@ fn read_from_rules(s: &[u8], variables: usize, choices: usize, rules: usize, fro
                         rules,
                         yes,
                         no,
+                        windows,
                         facts_yes: set.yes,
                         facts_no: set.no,
                     },

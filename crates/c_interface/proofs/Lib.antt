@@ -1,3 +1,4 @@
 mod SeenLaws
 mod CastLaws
 pub mod Told
+mod RowLaws

@@ -8,21 +8,22 @@ use native.Mathlib.Omega.{arith}
 use lib.Dec.{ltb}
 use lib.IntN.{pos, natAbs}
 use lib.ListN.{length}
+use Rattle.dates.specs.declared.Moment.{Moment}
 use Rattle.literals.specs.Literal.{Literal, literalOf}
 use Rattle.literals.specs.declared.LiteralSet.{LiteralSet}
 use Rattle.records.specs.Limits.{maxLog}
 use Rattle.records.specs.Format.{Read, value, refused, OrderBook, readBook}
 use Rattle.book.specs.Answer.{bookAnswer}
-use Rattle.book.proofs.NumberLaws.{reader-numbers}
+use Rattle.book.proofs.NumberLaws.{ReaderNumber, reader-numbers}
 use Rattle.book.proofs.PlaceLaws.{reader-places}
-use Rattle.problem.specs.Problem.{Problem, problemOf, given}
+use Rattle.problem.specs.Problem.{Problem, given}
 use Rattle.consequence.specs.Meaning.{hasModel, consequenceOf}
 use Rattle.step.specs.Meaning.{questionOf, Answer, nothingLeft, step, stepOf}
 use Rattle.log.specs.Meaning.{runFor, logOf}
 use Rattle.dimacs.specs.Import.{imported, importAnswer, bufferAfter}
 use Rattle.dimacs.specs.declared.Imported.{Imported}
 use Rattle.dimacs.specs.declared.Imported.the-variants as Imported
-use Rattle.engine.specs.Calls.{withModel, modelAnswer, firstModel, consequenceAnswer, between, stepSays, stepFor, stepAnswer}
+use Rattle.engine.specs.Calls.{posed, withModel, modelAnswer, firstModel, consequenceAnswer, between, stepSays, stepFor, stepAnswer}
 use Rattle.engine.specs.Calls.{IsNext, logged, refusedWith, logOutcome, logAnswer}
 use Rattle.engine.specs.declared.ModelAnswer.the-variants as ModelAnswer
 use Rattle.engine.specs.declared.ConsequenceAnswer.the-variants as ConsequenceAnswer
@@ -30,6 +31,7 @@ use Rattle.engine.specs.declared.StepAnswer.{StepAnswer}
 use Rattle.engine.specs.declared.StepAnswer.the-variants as StepAnswer
 use Rattle.engine.specs.Dimacs.{RefusalOf}
 use Rattle.engine.proofs.DimacsLaws.{dimacs-call}
+use Rattle.engine.proofs.PosedLaws.{posed-numbers, posed-places}
 use Rattle.c_interface.specs.Seen.{code, numberIn, placeIn, Outcome, done, refusal, returned, behind, asLiterals, byVerdict}
 use Rattle.c_interface.specs.Seen.{seenImported, seenModel, seenConsequence, seenStep, seenLog}
 use Rattle.c_interface.specs.Calls.{StepSeen}
@@ -64,26 +66,30 @@ module _ {B : Type 0} where
   at-0 : (number : ℕ) {bytes : ℕ} → 1 ≤ number → number < 256 → Bounded {B = B} bytes (refusal number 0)
   at-0 number l m = refusal-in {place = 0} l m (omega arith)
 
-  -- a book that the reader refuses
-  reader-bounded : (s : List ℕ) {number place : ℕ} → readBook s ≡ refused number place → Bounded {B = B} (length s) (refusal number place)
-  reader-bounded s e = let n = reader-numbers s e in refusal-in (n .0) (omega (arith, n .1)) (reader-places s e)
+  -- a refusal with a number of the reader
+  numbered : {bytes number place : ℕ} → ReaderNumber number → place ≤ bytes → Bounded {B = B} bytes (refusal number place)
+  numbered n h = ⊎-elim (λ k. refusal-in (k .0) (omega (arith, k .1)) h) (λ k. refusal-in (omega (arith, k)) (omega (arith, k)) h) n
 
   -- the readers of a book, whatever they show of it
   verdict-bounded : (s : List ℕ) (m : Read OrderBook) (b : B) → readBook s ≡ m → Bounded (length s) (byVerdict b (bookAnswer m .verdict))
   unfolding bookAnswer
   verdict-bounded s (value book end) b e = is-done
-  verdict-bounded s (refused number place) b e = reader-bounded s e
+  verdict-bounded s (refused number place) b e = numbered (reader-numbers s e) (reader-places s e)
+
+  -- a moment or a book that is refused
+  posed-bounded : (moment : Moment) (s : List ℕ) {number place : ℕ} → posed moment s ≡ refused number place → Bounded {B = B} (length s) (refusal number place)
+  posed-bounded moment s e = numbered (posed-numbers moment s e) (posed-places moment s e)
 
 -- the calls that give 9 by `withModel`
 module _ {A B : Type 0} (answer : Problem → A) (refuse : ℕ → ℕ → A) (seen : A → Outcome B) (refuses : (n p : ℕ) → seen (refuse n p) ≡ refusal n p)
     (answers : (bytes : ℕ) (p : Problem) → Bounded bytes (seen (answer p))) where
-  model-bounded : (s : List ℕ) (m : Read OrderBook) → readBook s ≡ m → Bounded (length s) (seen (withModel answer refuse m))
+  model-bounded : (moment : Moment) (s : List ℕ) (m : Read Problem) → posed moment s ≡ m → Bounded (length s) (seen (withModel answer refuse m))
   unfolding withModel
-  model-bounded s (refused number place) e = rw (refuses number place) (reader-bounded s e)
-  model-bounded s (value b end) e = go (hasModel (problemOf b))
+  model-bounded moment s (refused number place) e = rw (refuses number place) (posed-bounded moment s e)
+  model-bounded moment s (value p end) e = go (hasModel p)
     where
-      go : (h : Bool) → Bounded (length s) (seen (cond h (answer (problemOf b)) (refuse 9 0)))
-      go true = answers (length s) (problemOf b)
+      go : (h : Bool) → Bounded (length s) (seen (cond h (answer p) (refuse 9 0)))
+      go true = answers (length s) p
       go false = rw (refuses 9 0) (at-0 9 (omega arith) (omega arith))
 
 -- a step, nothing left, or 10
@@ -97,17 +103,18 @@ step-bounded known bytes p = go (between (given p) known (consequenceOf p)) (ste
     go true (step s) = is-done
 
 -- 8, and then as the others
-log-bounded : (s : List ℕ) (room : ℕ) (m : Read OrderBook) → readBook s ≡ m → Bounded (length s) (seenLog (logAnswer (logOutcome room m)))
+log-bounded : (moment : Moment) (s : List ℕ) (room : ℕ) (m : Read Problem) → posed moment s ≡ m
+    → Bounded (length s) (seenLog (logAnswer (logOutcome room m)))
 unfolding logOutcome logAnswer
-log-bounded s room (refused number place) e = reader-bounded s e
-log-bounded s room (value b end) e = go (ltb room maxLog)
+log-bounded moment s room (refused number place) e = posed-bounded moment s e
+log-bounded moment s room (value q end) e = go (ltb room maxLog)
   where
     go : (t : Bool)
         → Bounded (length s)
-        (seenLog (logAnswer (cond t (refusedWith 8 0) (withModel (λ p. logged (logOf (runFor p))) refusedWith (value b end)))))
+        (seenLog (logAnswer (cond t (refusedWith 8 0) (withModel (λ p. logged (logOf (runFor p))) refusedWith (value q end)))))
     go true = at-0 8 (omega arith) (omega arith)
     go false =
-        model-bounded (λ p. logged (logOf (runFor p))) refusedWith (λ o. seenLog (logAnswer o)) (λ n p. refl) (λ bytes p. is-done) s (value b end) e
+        model-bounded (λ p. logged (logOf (runFor p))) refusedWith (λ o. seenLog (logAnswer o)) (λ n p. refl) (λ bytes p. is-done) moment s (value q end) e
 
 -- from what the engine's contract says of every refusal of a text
 dimacs-bounded : (s old : List ℕ) → Bounded (length s) (seenImported (importAnswer (imported (length old) s)))
@@ -128,14 +135,15 @@ all-told s = record {
   book = told (verdict-bounded s (readBook s) _ refl);
   costs = told (verdict-bounded s (readBook s) _ refl);
   dimacs = λ old. told (dimacs-bounded s old);
-  model =
-      told (model-bounded (λ p. ModelAnswer.Model (firstModel p)) ModelAnswer.Refused seenModel (λ n p. refl) (λ bytes p. is-done) s (readBook s) refl);
-  consequence =
+  model = λ moment.
+      told (model-bounded (λ p. ModelAnswer.Model (firstModel p)) ModelAnswer.Refused seenModel (λ n p. refl) (λ bytes p. is-done) moment s (posed moment s)
+      refl);
+  consequence = λ moment.
       told (model-bounded (λ p. ConsequenceAnswer.Forced (consequenceOf p)) ConsequenceAnswer.Refused seenConsequence (λ n p. refl) (λ bytes p. is-done)
-      s (readBook s) refl);
-  step = λ on off. told (model-bounded (stepFor (asLiterals on off)) StepAnswer.Refused seenStep (λ n p. refl) (step-bounded (asLiterals on off)) s
-      (readBook s) refl);
-  log = λ old. told (log-bounded s (length old) (readBook s) refl);
+      moment s (posed moment s) refl);
+  step = λ moment on off. told (model-bounded (stepFor (asLiterals on off)) StepAnswer.Refused seenStep (λ n p. refl) (step-bounded (asLiterals on off)) moment
+      s (posed moment s) refl);
+  log = λ moment old. told (log-bounded moment s (length old) (posed moment s) refl);
 }
 
 -- ---- the goal
@@ -146,22 +154,22 @@ literal-not-0 v true e = let z = ap natAbs e in omega arith
 literal-not-0 v false e = let z = ap natAbs e in omega arith
 
 -- the goal of a step is a literal
-step-goal : (m : Read OrderBook) (known : LiteralSet) (goal : Literal) (reasons new : LiteralSet) (cost : ℕ)
+step-goal : (m : Read Problem) (known : LiteralSet) (goal : Literal) (reasons new : LiteralSet) (cost : ℕ)
     → IsNext m known (StepAnswer.Step goal reasons new cost) → goal ≡ pos 0 → ⊥
-step-goal (value b end) known goal reasons new cost i e = literal-not-0 (i .variable) (i .says) (sym (i .goal-said) ∙ e)
+step-goal (value p end) known goal reasons new cost i e = literal-not-0 (i .variable) (i .says) (sym (i .goal-said) ∙ e)
 step-goal (refused number place) known goal reasons new cost i e = let z : _≡_ {A = ℕ} 0 1 = cc in omega arith
 
-pub goal-told : (s : List ℕ) (on off : ℕ) → GoalTold s on off
+pub goal-told : (s : List ℕ) (moment : Moment) (on off : ℕ) → GoalTold s moment on off
 unfolding behind
-goal-told s on off = record { nothing-left = λ {before} {after} x e. go (stepAnswer on off (readBook s)) refl x e }
+goal-told s moment on off = record { nothing-left = λ {before} {after} x e. go (stepAnswer on off (posed moment s)) refl x e }
   where
-    go : (a : StepAnswer) → stepAnswer on off (readBook s) ≡ a → {before after : StepShown} → StepSeen s on off before after 0 → after .goal ≡ pos 0
-        → stepAnswer on off (readBook s) ≡ StepAnswer.NothingLeft
+    go : (a : StepAnswer) → stepAnswer on off (posed moment s) ≡ a → {before after : StepShown} → StepSeen s moment on off before after 0
+        → after .goal ≡ pos 0 → stepAnswer on off (posed moment s) ≡ StepAnswer.NothingLeft
     go StepAnswer.NothingLeft a x e = a
     go (StepAnswer.Refused number place) a x e =
-        let d = all-told s .step on off .zero-done (sym (x .returns)) in
+        let d = all-told s .step moment on off .zero-done (sym (x .returns)) in
         let r : seenStep (StepAnswer.Refused number place) ≡ done (d .0) = ap seenStep (sym a) ∙ d .1 in
         let z : _≡_ {A = ℕ} 0 1 = cc in absurd (omega arith)
     go (StepAnswer.Step goal reasons new cost) a {before} x e =
-        absurd (step-goal (readBook s) (asLiterals on off) goal reasons new cost (rw a at (x .called .is-next))
+        absurd (step-goal (posed moment s) (asLiterals on off) goal reasons new cost (rw a at (x .called .is-next))
         (sym (ap (λ (t : StepShown). t .goal) (x .leaves ∙ ap (λ (o : StepAnswer). behind (seenStep o) before) a)) ∙ e))

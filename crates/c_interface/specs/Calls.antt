@@ -1,21 +1,21 @@
--- The functions for C, for any bytes: each by equation with the meaning of the engine's call, through `Seen`, and with the contract of that call (for the
+-- The functions for C, for any bytes and any moment: each by equation with the meaning of the engine's call, through `Seen`, and with the contract of that call (for the
 -- log demand 3, for the consequence demand 2). The contracts in src/lib.rt unfold to what stands here.
 use mathlib.Core.Path.{_≡_}
 use mathlib.Core.List.{List}
 use Prim.Native.Nat.{ℕ}
 use lib.ListN.{length}
+use Rattle.dates.specs.declared.Moment.{Moment}
 use Rattle.literals.specs.declared.LiteralSet.{LiteralSet}
 use Rattle.records.specs.Format.{readBook}
-use Rattle.records.specs.declared.Book.{Book}
 use Rattle.book.specs.Answer.{bookAnswer, tableAnswer}
 use Rattle.dimacs.specs.Import.{imported, importAnswer}
-use Rattle.engine.specs.Calls.{modelAnswer, ModelCall, consequenceAnswer, ConsequenceCall, stepAnswer, StepCall, logOutcome, logAnswer, LogCall}
+use Rattle.engine.specs.Calls.{posed, modelAnswer, ModelCall, consequenceAnswer, ConsequenceCall, stepAnswer, StepCall, logOutcome, logAnswer, LogCall}
 use Rattle.engine.specs.Dimacs.{DimacsCall}
-use Rattle.c_interface.specs.Seen.{Seen, seenBook, seenCosts, seenImported, seenModel, seenConsequence, seenStep, LogShown, seenLog}
+use Rattle.c_interface.specs.Seen.{Seen, BookShown, seenBook, seenCosts, seenImported, seenModel, seenConsequence, seenStep, LogShown, seenLog}
 use Rattle.c_interface.specs.declared.StepShown.{StepShown}
 
 -- `why_read_book` of the bytes s.
-abbrev pub BookSeen : List ℕ → Book → Book → ℕ → Type 0
+abbrev pub BookSeen : List ℕ → BookShown → BookShown → ℕ → Type 0
 BookSeen s = Seen (λ a. a ≡ bookAnswer (readBook s)) (bookAnswer (readBook s)) seenBook
 
 -- `why_read_costs`.
@@ -27,17 +27,17 @@ abbrev pub DimacsSeen : List ℕ → List ℕ → List ℕ → ℕ → ℕ → �
 DimacsSeen s old new = Seen (DimacsCall s old new) (importAnswer (imported (length old) s)) seenImported
 
 -- `why_model`.
-abbrev pub ModelSeen : List ℕ → ℕ → ℕ → ℕ → Type 0
-ModelSeen s = Seen (ModelCall s) (modelAnswer (readBook s)) seenModel
+abbrev pub ModelSeen : List ℕ → Moment → ℕ → ℕ → ℕ → Type 0
+ModelSeen s moment = Seen (ModelCall s moment) (modelAnswer (posed moment s)) seenModel
 
 -- `why_consequence`.
-abbrev pub ConsequenceSeen : List ℕ → LiteralSet → LiteralSet → ℕ → Type 0
-ConsequenceSeen s = Seen (ConsequenceCall s) (consequenceAnswer (readBook s)) seenConsequence
+abbrev pub ConsequenceSeen : List ℕ → Moment → LiteralSet → LiteralSet → ℕ → Type 0
+ConsequenceSeen s moment = Seen (ConsequenceCall s moment) (consequenceAnswer (posed moment s)) seenConsequence
 
 -- `why_next_step` from the known set of these two masks.
-abbrev pub StepSeen : List ℕ → ℕ → ℕ → StepShown → StepShown → ℕ → Type 0
-StepSeen s on off = Seen (StepCall s on off) (stepAnswer on off (readBook s)) seenStep
+abbrev pub StepSeen : List ℕ → Moment → ℕ → ℕ → StepShown → StepShown → ℕ → Type 0
+StepSeen s moment on off = Seen (StepCall s moment on off) (stepAnswer on off (posed moment s)) seenStep
 
 -- `why_log`; `old` stands in the lent buffer at entry and `new` at exit.
-abbrev pub LogSeen : List ℕ → List ℕ → List ℕ → LogShown → LogShown → ℕ → Type 0
-LogSeen s old new = Seen (LogCall s old new) (logAnswer (logOutcome (length old) (readBook s))) seenLog
+abbrev pub LogSeen : List ℕ → Moment → List ℕ → List ℕ → LogShown → LogShown → ℕ → Type 0
+LogSeen s moment old new = Seen (LogCall s moment old new) (logAnswer (logOutcome (length old) (posed moment s))) seenLog

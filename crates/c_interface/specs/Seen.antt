@@ -1,12 +1,16 @@
 -- What the C side sees of an answer of the engine: the number that a function returns, and what then stands behind its pointers. One definition for all
 -- of them: an answer comes to an outcome, and the outcome settles both.
 use mathlib.Core.Path.{_≡_}
-use mathlib.Core.List.{List}
+use mathlib.Core.List.{List, [], _∷_, map}
 use Prim.Native.Nat.{ℕ, _+_, _*_, _-_, _^_, _/_, _%_, min}
 use lib.IntN.{pos}
 use Rattle.literals.specs.Literal.{Literal}
 use Rattle.literals.specs.declared.LiteralSet.{LiteralSet}
+use Rattle.dates.specs.declared.Moment.{Moment}
+use Rattle.dates.specs.declared.Applies.{Applies}
+use Rattle.dates.specs.declared.Applies.the-variants as Applies
 use Rattle.records.specs.declared.Book.{Book}
+use Rattle.records.specs.declared.RuleWindow.{RuleWindow}
 use Rattle.book.specs.declared.Reading.{Reading}
 use Rattle.book.specs.declared.Verdict.{Verdict}
 use Rattle.book.specs.declared.Verdict.the-variants as Verdict
@@ -63,14 +67,31 @@ pub record Seen {A B : Type 0} (Call : A → Type 0) (answer : A) (seen : A → 
   pub returns : r ≡ returned (seen answer)
   pub leaves : after ≡ behind (seen answer) before
 
+-- ---- what is handed over
+
+-- The moment of a call.
+abbrev pub asMoment : ℕ → ℕ → ℕ → ℕ → Moment
+asMoment year month day minute = record { date = record { year = year; month = month; day = day }; minute = minute }
+
 -- ---- what stands behind the pointers of a function, in their order
 
 abbrev pub asLiterals : ℕ → ℕ → LiteralSet
 asLiterals on off = record { yes = on; no = off }
 
-abbrev pub asBook : ℕ → ℕ → ℕ → List ℕ → List ℕ → ℕ → ℕ → Book
-asBook variables choices rules on off facts-on facts-off =
-    record { variables = variables; choices = choices; rules = rules; yes = on; no = off; «facts_yes» = facts-on; «facts_no» = facts-off }
+-- A book: as it is kept, and a row of nine numbers for the window of each rule.
+pub record BookShown : Type 0 where
+  pub variables : ℕ
+  pub choices : ℕ
+  pub rules : ℕ
+  pub on : List ℕ
+  pub off : List ℕ
+  pub windows : List (List ℕ)
+  pub facts-on : ℕ
+  pub facts-off : ℕ
+
+abbrev pub asBook : ℕ → ℕ → ℕ → List ℕ → List ℕ → List (List ℕ) → ℕ → ℕ → BookShown
+asBook variables choices rules on off windows facts-on facts-off =
+    record { variables = variables; choices = choices; rules = rules; on = on; off = off; windows = windows; facts-on = facts-on; facts-off = facts-off }
 
 abbrev pub asStep : Literal → ℕ → ℕ → ℕ → ℕ → ℕ → StepShown
 asStep goal reasons-on reasons-off new-on new-off cost =
@@ -92,9 +113,23 @@ abbrev pub byVerdict : {B : Type 0} → B → Verdict → Outcome B
 byVerdict b Verdict.Accepted = done b
 byVerdict b (Verdict.Refused number place) = refusal number place
 
+-- When a rule applies: the fields of WN in their order, first day, end day, weekdays, first minute, end minute; zeros where it has none.
+unfoldable pub windowRow : Applies → List ℕ
+windowRow Applies.Always = 0 ∷ 0 ∷ 0 ∷ 0 ∷ 0 ∷ 0 ∷ 0 ∷ 0 ∷ 0 ∷ []
+windowRow (Applies.During w) =
+    w .«first_day» .year ∷ w .«first_day» .month ∷ w .«first_day» .day ∷ w .«end_day» .year ∷ w .«end_day» .month ∷ w .«end_day» .day ∷ w .weekdays
+    ∷ w .«first_minute» ∷ w .«end_minute» ∷ []
+
+-- The same of what is kept.
+abbrev pub keptRow : RuleWindow → List ℕ
+keptRow w = windowRow (w .applies)
+
 -- The book: every field of it.
-abbrev pub seenBook : Reading → Outcome Book
-seenBook r = byVerdict (r .book) (r .verdict)
+abbrev pub shownBook : Book → BookShown
+shownBook b = asBook (b .variables) (b .choices) (b .rules) (b .yes) (b .no) (map keptRow (b .windows)) (b .«facts_yes») (b .«facts_no»)
+
+abbrev pub seenBook : Reading → Outcome BookShown
+seenBook r = byVerdict (shownBook (r .book)) (r .verdict)
 
 -- The costs, a row of two for each choice that a book can have.
 abbrev pub seenCosts : List (List ℕ) → Reading → Outcome (List (List ℕ))

@@ -1,14 +1,15 @@
--- What a C program can tell from what it sees, of any bytes: done from refused, a refusal's number and place, a step from nothing left.
+-- What a C program can tell from what it sees, of any bytes and any moment: done from refused, a refusal's number and place, a step from nothing left.
 -- proofs/Told shows all of it.
 use mathlib.Core.Path.{_≡_}
 use mathlib.Core.List.{List}
 use Prim.Native.Nat.{ℕ, _≤_}
 use lib.IntN.{pos}
 use lib.ListN.{length}
+use Rattle.dates.specs.declared.Moment.{Moment}
 use Rattle.records.specs.Format.{readBook}
 use Rattle.book.specs.Answer.{bookAnswer, tableAnswer}
 use Rattle.dimacs.specs.Import.{imported, importAnswer}
-use Rattle.engine.specs.Calls.{modelAnswer, consequenceAnswer, stepAnswer, logOutcome, logAnswer}
+use Rattle.engine.specs.Calls.{posed, modelAnswer, consequenceAnswer, stepAnswer, logOutcome, logAnswer}
 use Rattle.engine.specs.declared.StepAnswer.the-variants as StepAnswer
 use Rattle.c_interface.specs.Seen.{maxPlace, numberIn, placeIn, Outcome, done, refusal, returned}
 use Rattle.c_interface.specs.Seen.{seenBook, seenCosts, seenImported, seenModel, seenConsequence, seenStep, seenLog}
@@ -27,12 +28,12 @@ pub record AllTold (s : List ℕ) : Type 0 where
   pub book : Told (length s) (seenBook (bookAnswer (readBook s)))
   pub costs : Told (length s) (seenCosts (tableAnswer (λ b. b .costs) (readBook s)) (bookAnswer (readBook s)))
   pub dimacs : (old : List ℕ) → Told (length s) (seenImported (importAnswer (imported (length old) s)))
-  pub model : Told (length s) (seenModel (modelAnswer (readBook s)))
-  pub consequence : Told (length s) (seenConsequence (consequenceAnswer (readBook s)))
-  pub step : (known-on known-off : ℕ) → Told (length s) (seenStep (stepAnswer known-on known-off (readBook s)))
-  pub log : (old : List ℕ) → Told (length s) (seenLog (logAnswer (logOutcome (length old) (readBook s))))
+  pub model : (moment : Moment) → Told (length s) (seenModel (modelAnswer (posed moment s)))
+  pub consequence : (moment : Moment) → Told (length s) (seenConsequence (consequenceAnswer (posed moment s)))
+  pub step : (moment : Moment) (known-on known-off : ℕ) → Told (length s) (seenStep (stepAnswer known-on known-off (posed moment s)))
+  pub log : (moment : Moment) (old : List ℕ) → Told (length s) (seenLog (logAnswer (logOutcome (length old) (posed moment s))))
 
 -- Where 0 is returned and the goal is 0, nothing is left: no step has the goal 0.
-pub record GoalTold (s : List ℕ) (known-on known-off : ℕ) : Type 0 where
-  pub nothing-left : {before after : StepShown} → StepSeen s known-on known-off before after 0 → after .goal ≡ pos 0
-      → stepAnswer known-on known-off (readBook s) ≡ StepAnswer.NothingLeft
+pub record GoalTold (s : List ℕ) (moment : Moment) (known-on known-off : ℕ) : Type 0 where
+  pub nothing-left : {before after : StepShown} → StepSeen s moment known-on known-off before after 0 → after .goal ≡ pos 0
+      → stepAnswer known-on known-off (posed moment s) ≡ StepAnswer.NothingLeft

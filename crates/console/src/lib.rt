@@ -1,4 +1,5 @@
-// Writes to standard output what is printed for a book's bytes, and the book that is made of a DIMACS CNF text; opens stored files.
+// Writes to standard output what is printed for an input, a moment and a book, and the book that is made of a DIMACS CNF text;
+// opens stored files.
 use dimacs::Imported;
 use printing::Printed;
 use records::Book;
@@ -9,10 +10,10 @@ const MAX_INPUT: usize = 65536;
 // The bytes of the line of a refusal, at most.
 const MAX_LINE: usize = 36;
 
-// The text of the log's lines or of the refusal. It always fits: the buffer has room for the longest.
-pub fn show(s: &[u8]) {
+// The text for an input, the six bytes of a moment and then a book. It always fits: the buffer has room for the longest.
+pub fn show(input: &[u8]) {
     let mut text = [0u8; printing::MAX_TEXT];
-    match printing::print(s, &mut text) {
+    match printing::print(input, &mut text) {
         Printed::Text(size) => {
             io::write_all(libc::STDOUT_FILENO, &text[..size]);
         }
@@ -20,12 +21,22 @@ pub fn show(s: &[u8]) {
     }
 }
 
-// Reads the first 4,096 bytes at most of an open file and writes the text for them. A short read is followed by another,
-// up to the end of the file.
+// Reads the first 4,096 bytes at most of an open file, the moment's six included, and writes the text for them. A short read is
+// followed by another, up to the end of the file.
 pub fn show_file(fd: i32) {
     let mut space = io::buffer();
     let size = io::read_full(fd, &mut space);
     show(&space[..size]);
+}
+
+// The same for an open file that has a book alone: the six bytes of a moment are put before what is read, 4,096 bytes at most in all.
+pub fn show_book(moment: [u8; printing::MOMENT_SIZE], fd: i32) {
+    let mut space = io::buffer();
+    for i in 0..printing::MOMENT_SIZE {
+        space[i] = moment[i];
+    }
+    let size = io::read_full(fd, &mut space[printing::MOMENT_SIZE..]);
+    show(&space[..printing::MOMENT_SIZE + size]);
 }
 
 // The line of a refusal.

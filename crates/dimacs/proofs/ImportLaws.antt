@@ -17,7 +17,7 @@ use Rattle.book.specs.declared.PlaceAfter.the-variants as PlaceAfter
 use Rattle.log_form.specs.Contracts.{Put}
 use Rattle.log_form.proofs.StoreLaws.{put-whole}
 use Rattle.dimacs.specs.Text.{Formula, ruleOf, formulaOf}
-use Rattle.dimacs.specs.Import.{keptOf, rulesOf, bookOf, bookBytes, imported, importAnswer, bufferAfter, ImportedAs}
+use Rattle.dimacs.specs.Import.{keptOf, rulesOf, bookBytes, importedBytes, imported, importAnswer, bufferAfter, ImportedAs}
 use Rattle.dimacs.specs.Contracts.{textAnswer, writtenBytes}
 use Rattle.dimacs.specs.declared.Imported.the-variants as Imported
 use Rattle.dimacs.specs.declared.TextRead.{TextRead}
@@ -55,8 +55,8 @@ unfolding padded
 array-room f cs = omega (arith, length-append (map f cs) (replicate (maxRules - length (map f cs)) 0), length-map cs f)
 
 -- what is put is the book
-book-put : (f : Formula) → writtenBytes (f .variables) (map yesMask (keptOf (f .clauses))) (map noMask (keptOf (f .clauses))) ≡ bookBytes (bookOf f)
-unfolding writtenBytes bookBytes bookOf rulesOf
+book-put : (f : Formula) → writtenBytes (f .variables) (map yesMask (keptOf (f .clauses))) (map noMask (keptOf (f .clauses))) ≡ importedBytes f
+unfolding writtenBytes bookBytes rulesOf
 book-put f = rw (length-map (keptOf (f .clauses)) yesMask, length-map (keptOf (f .clauses)) ruleOf, masked-rules (keptOf (f .clauses))) refl
 
 -- The masks of the clauses that were kept, as they are handed on.
@@ -75,7 +75,7 @@ pub record Handed (s : List ℕ) (r : TextRead) (p : ℕ) : Type 0 where
   pub no-room : r .kept ≤ length (r .no)
   pub few-rules : length (keptMasks r (r .yes)) ≤ maxRules
   pub paired : length (keptMasks r (r .yes)) ≡ length (keptMasks r (r .no))
-  pub bytes : handedBytes r ≡ bookBytes (bookOf formula)
+  pub bytes : handedBytes r ≡ importedBytes formula
 
 module _ (s : List ℕ) {r : TextRead} (e : r ≡ textAnswer (formulaOf s)) {p : ℕ} (f : r .after ≡ PlaceAfter.At p) where
   pub handed : Handed s r p

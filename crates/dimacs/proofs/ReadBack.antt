@@ -1,6 +1,6 @@
 -- The records of a book are read back from their bytes: one CS, one RL, and records in a row. Assumes nothing.
 use mathlib.Core.Path.{_≡_, refl, sym, ap, ap₂, _∙_}
-use mathlib.Core.Bool.{true, _&&_}
+use mathlib.Core.Bool.{true, false, _&&_}
 use mathlib.Core.List.{List, [], _∷_, _++_, map, append-assoc}
 use Prim.Native.Nat.{ℕ, zero, suc, _+_, _-_, _*_, _^_, _≤_, _<_}
 use native.Mathlib.Omega.{arith}
@@ -14,7 +14,8 @@ use Rattle.sets.specs.Laws.Subset.{has-true, in-union, in-union-right}
 use Rattle.literals.specs.Literal.{Literal, variable, literalsOf, ofByte, byteOf}
 use Rattle.literals.specs.Laws.{and-both}
 use Rattle.records.specs.Limits.{maxVariables, maxLiterals}
-use Rattle.records.specs.Format.{RecordRead, says, value, Cost, rising, many, opened, marked, pair, isCost, costAt, costValues, ruleAt, ruleValues}
+use Rattle.records.specs.Format.{says, Read, value, Cost, Rule, always, rising, many, opened, marked, begins, pair, isCost, WN, costAt, costValues, costFrom}
+use Rattle.records.specs.Format.{ruleAt, ruleValues, windowFrom, ruleFrom}
 use Rattle.records.proofs.LiteralLaws.{rising-none, rising-more, rising-head}
 use Rattle.book.proofs.ValueLaws.{Each}
 use Rattle.log_form.specs.Format.{twoBytes, listBytes, risingOver}
@@ -90,17 +91,24 @@ module _ {A : Type 0} (bytesOf : ℕ → A → List ℕ) where
   rowBytes i [] = []
   rowBytes i (a ∷ items) = bytesOf i a ++ rowBytes (suc i) items
 
-module _ {A : Type 0} (recordAt : ℕ → List ℕ → RecordRead A) (bytesOf : ℕ → A → List ℕ) (P : A → Type 0)
-    (back : (i : ℕ) (a : A) (rest : List ℕ) → P a → recordAt i (bytesOf i a ++ rest) ≡ says a (length (bytesOf i a))) (s : List ℕ) where
-  many-back : (items : List A) (i place : ℕ) (rest : List ℕ) → Each P items → drop place s ≡ rowBytes bytesOf i items ++ rest
-      → many recordAt s (length items) i place ≡ value items (place + length (rowBytes bytesOf i items))
+-- Items with the property P, each read back from its bytes where what follows them has the property Q, as the bytes of an item have.
+module _ {A : Type 0} (itemFrom : ℕ → ℕ → Read A) (bytesOf : ℕ → A → List ℕ) (P : A → Type 0) (Q : List ℕ → Type 0) (s : List ℕ)
+    (back : (i place : ℕ) (a : A) (rest : List ℕ) → P a → Q rest → drop place s ≡ bytesOf i a ++ rest → itemFrom i place ≡ value a (place + length (bytesOf i a)))
+    (follows : (i : ℕ) (a : A) (rest : List ℕ) → Q (bytesOf i a ++ rest)) where
+  others-follow : (items : List A) (i : ℕ) (rest : List ℕ) → Q rest → Q (rowBytes bytesOf i items ++ rest)
+  others-follow [] i rest q = q
+  others-follow (a ∷ items) i rest q = rw (append-assoc (bytesOf i a) (rowBytes bytesOf (suc i) items) rest) (follows i a _)
+
+  many-back : (items : List A) (i place : ℕ) (rest : List ℕ) → Each P items → Q rest → drop place s ≡ rowBytes bytesOf i items ++ rest
+      → many itemFrom (length items) i place ≡ value items (place + length (rowBytes bytesOf i items))
   unfolding many
-  many-back [] i place rest e d = ap (value []) (omega arith)
-  many-back (a ∷ items) i place rest e d =
+  many-back [] i place rest e q d = ap (value []) (omega arith)
+  many-back (a ∷ items) i place rest e q d =
       let others : List ℕ = rowBytes bytesOf (suc i) items in
       let here : drop place s ≡ bytesOf i a ++ (others ++ rest) = d ∙ append-assoc (bytesOf i a) others rest in
       let after = passed s place (bytesOf i a) (others ++ rest) here in
-      rw (here, back i a (others ++ rest) (e .0), many-back items (suc i) (place + length (bytesOf i a)) rest (e .1) after)
+      let first = back i place a (others ++ rest) (e .0) (others-follow items (suc i) rest q) here in
+      rw (first, many-back items (suc i) (place + length (bytesOf i a)) rest (e .1) q after)
       (ap (value (a ∷ items)) (omega (arith, length-append (bytesOf i a) others)))
 
 -- the CS and the RL are rows
@@ -109,7 +117,7 @@ unfolding costsBytes
 costs-row zero i = refl
 costs-row (suc left) i = ap (λ t. costBytes i ++ t) (costs-row left (suc i))
 
-rules-row : (i : ℕ) (rs : List (List Literal)) → rowBytes (λ j r. ruleBytes r) i rs ≡ rulesBytes rs
+rules-row : (i : ℕ) (rs : List (List Literal)) → rowBytes (λ j (r : Rule). ruleBytes (r .literals)) i (map always rs) ≡ rulesBytes rs
 unfolding rulesBytes
 rules-row i [] = refl
 rules-row i (r ∷ rs) = ap (λ t. ruleBytes r ++ t) (rules-row (suc i) rs)
@@ -118,18 +126,44 @@ each-cost : (left : ℕ) → Each (λ c. c ≡ oneEach) (replicate left oneEach)
 each-cost zero = tt
 each-cost (suc left) = (refl, each-cost left)
 
+-- Such a rule, where it always applies.
+abbrev GoodAlways : ℕ → Rule → Type 0
+GoodAlways n r = GoodRule n (r .literals) × (r ≡ always (r .literals))
+
+each-always : (n : ℕ) (rs : List (List Literal)) → Each (GoodRule n) rs → Each (GoodAlways n) (map always rs)
+each-always n [] e = tt
+each-always n (r ∷ rs) e = ((e .0, refl), each-always n rs (e .1))
+
 -- they are read back
 pub costs-back : (s : List ℕ) (left i place : ℕ) (rest : List ℕ) → drop place s ≡ costsBytes left i ++ rest
-    → many costAt s left i place ≡ value (replicate left oneEach) (place + length (costsBytes left i))
+    → many (costFrom s) left i place ≡ value (replicate left oneEach) (place + length (costsBytes left i))
+unfolding costFrom
 costs-back s left i place rest d =
     rw (length-replicate, costs-row) at
-    (many-back costAt (λ j c. costBytes j) (λ c. c ≡ oneEach) (λ j c t e. rw e (cost-back j t)) s (replicate left oneEach) i place rest (each-cost left)
+    (many-back (costFrom s) (λ j c. costBytes j) (λ c. c ≡ oneEach) (λ t. Unit {0}) s one (λ j c t. tt) (replicate left oneEach) i place rest (each-cost left) tt
     (rw costs-row d))
+  where
+    one : (j p : ℕ) (c : Cost) (t : List ℕ) → c ≡ oneEach → Unit {0} → drop p s ≡ costBytes j ++ t → costFrom s j p ≡ value c (p + length (costBytes j))
+    one j p c t e q k = rw (k, cost-back j t, e) refl
+
+-- no rule begins as a window does
+not-window : (r : Rule) (rest : List ℕ) → begins WN (ruleBytes (r .literals) ++ rest) ≡ false
+unfolding begins marked ruleBytes
+not-window r rest = rw (le-leb 2 (length (ruleBytes (r .literals) ++ rest)) (omega arith)) refl
 
 pub rules-back : (s : List ℕ) (n : ℕ) (rs : List (List Literal)) (i place : ℕ) (rest : List ℕ) → n ≤ maxVariables → Each (GoodRule n) rs
-    → drop place s ≡ rulesBytes rs ++ rest → many (λ j. ruleAt n) s (length rs) i place ≡ value rs (place + length (rulesBytes rs))
-rules-back s n rs i place rest h e d =
-    rw rules-row at (many-back (λ j. ruleAt n) (λ j. ruleBytes) (GoodRule n) (λ j. rule-back n h) s rs i place rest e (rw rules-row d))
+    → begins WN rest ≡ false → drop place s ≡ rulesBytes rs ++ rest
+    → many (λ j. ruleFrom s n) (length rs) i place ≡ value (map always rs) (place + length (rulesBytes rs))
+unfolding ruleFrom windowFrom
+rules-back s n rs i place rest h e q d =
+    rw (length-map, rules-row) at
+    (many-back (λ j. ruleFrom s n) (λ j (r : Rule). ruleBytes (r .literals)) (GoodAlways n) (λ t. begins WN t ≡ false) s one (λ j. not-window) (map always rs) i
+    place rest (each-always n rs e) q (rw rules-row d))
+  where
+    one : (j p : ℕ) (r : Rule) (t : List ℕ) → GoodAlways n r → begins WN t ≡ false → drop p s ≡ ruleBytes (r .literals) ++ t
+        → ruleFrom s n p ≡ value r (p + length (ruleBytes (r .literals)))
+    one j p r t g q k =
+        rw (k, rule-back n h (r .literals) t (g .0), passed s p (ruleBytes (r .literals)) t k, q) (ap (λ x. value x (p + length (ruleBytes (r .literals)))) (sym (g .1)))
 
 -- ---- how many bytes
 

@@ -2,7 +2,7 @@
 use mathlib.Core.Path.{_≡_, refl, sym, ap, _∙_}
 use mathlib.Core.Logic.{⊎-elim}
 use mathlib.Core.Bool.{Bool, true, false}
-use mathlib.Core.List.{List, [], _∷_, _++_}
+use mathlib.Core.List.{List, [], _∷_, _++_, map}
 use Prim.Native.Nat.{ℕ, suc, _+_, _-_, _^_, _≤_, _<_}
 use native.Mathlib.Omega.{arith}
 use borrow.Author.Tests.{le-leb, le-ltb, leb-true}
@@ -12,10 +12,10 @@ use Rattle.literals.specs.Literal.{Literal}
 use Rattle.literals.specs.Truth.{yesMask, noMask}
 use Rattle.literals.specs.Laws.{signBit, signMask, mask-none, mask-more, sign-bit}
 use Rattle.records.specs.Limits.{maxVariables, maxChoices, maxRules, maxLiterals, maxWithoutFacts}
-use Rattle.records.specs.Format.{says, value, Header, OrderBook, EN, opened, marked, headerAt, headerValues, atFact, endAt, factsFrom, fromRules, readBook}
+use Rattle.records.specs.Format.{says, value, Header, always, OrderBook, WN, EN, opened, marked, begins, headerAt, headerValues, endAt, factsFrom, fromRules, readBook}
 use Rattle.book.proofs.ValueLaws.{Each}
 use Rattle.dimacs.specs.Text.{Formula, isDropped, ruleOf}
-use Rattle.dimacs.specs.Import.{choicesOf, keptOf, rulesOf, bookOf, costsBytes, rulesBytes, bookBytes}
+use Rattle.dimacs.specs.Import.{choicesOf, keptOf, rulesOf, bookOf, costsBytes, rulesBytes, bookBytes, importedBytes}
 use Rattle.dimacs.proofs.Good.{OverVariable, GoodClause, GoodFormula}
 use Rattle.dimacs.proofs.ReadBack.{oneEach, GoodRule, literals-rise, passed, costs-back, rules-back, costs-length, rules-length}
 
@@ -55,15 +55,20 @@ rules-good v (c ∷ cs) e = go (isDropped c) refl (rules-good v cs (e .1))
 
 -- ---- the book
 
--- A book whose bytes are read as it and fit the least buffer.
-record Written (b : OrderBook) : Type 0 where
-  read : readBook (bookBytes b) ≡ value b (length (bookBytes b))
-  short : length (bookBytes b) ≤ maxWithoutFacts
+-- A book and its bytes, which are read as it and fit the least buffer.
+record Written (b : OrderBook) (bytes : List ℕ) : Type 0 where
+  read : readBook bytes ≡ value b (length bytes)
+  short : length bytes ≤ maxWithoutFacts
 
 -- EN with no fact before it
 end-back : (s : List ℕ) (u turns last place : ℕ) → drop place s ≡ EN → factsFrom s u (suc turns) last place ≡ value [] (place + 2)
-unfolding factsFrom atFact endAt opened marked
+unfolding factsFrom begins endAt opened marked
 end-back s u turns last place d = rw d refl
+
+-- EN begins no window
+end-no-window : begins WN EN ≡ false
+unfolding begins marked
+end-no-window = refl
 
 module _ (v u : ℕ) (rs : List (List Literal)) where
   -- The book, and its bytes.
@@ -71,10 +76,10 @@ module _ (v u : ℕ) (rs : List (List Literal)) where
   counts = record { variables = v; choices = u; rules = length rs }
 
   abbrev book : OrderBook
-  book = record { header = counts; costs = replicate u oneEach; rules = rs; facts = [] }
+  book = record { header = counts; costs = replicate u oneEach; rules = map always rs; facts = [] }
 
   abbrev whole : List ℕ
-  whole = bookBytes book
+  whole = bookBytes v u rs
 
   -- The places after the costs and after the rules.
   abbrev afterCosts : ℕ
@@ -117,18 +122,18 @@ module _ (v u : ℕ) (rs : List (List Literal)) where
         rw (
           header-back,
           costs-back whole u 1 5 (rulesBytes rs ++ EN) costs-at,
-          rules-back whole v rs 1 afterCosts EN few-variables each rules-at,
+          rules-back whole v rs 1 afterCosts EN few-variables each end-no-window rules-at,
           end-back whole u (length whole) 0 afterRules end-at,
           le-ltb (afterRules + 2) (length whole) (omega (arith, whole-length)),
         )
         (ap (value book) (sym whole-length))
 
-    written : Written book
+    written : Written book whole
     written = record { read = book-back; short = omega (arith, whole-length, costs-length u 1, rules-length v rs each) }
 
 -- ---- the book of a good formula
 
-book-written : {f : Formula} → GoodFormula f → Written (bookOf f)
+book-written : {f : Formula} → GoodFormula f → Written (bookOf f) (importedBytes f)
 unfolding bookOf
 book-written {f} g =
     let rules = rules-good (f .variables) (f .clauses) (g .each) in
@@ -136,9 +141,9 @@ book-written {f} g =
     (omega (arith, g .few-clauses, rules .few)) (rules .each)
 
 -- its bytes are read as it
-pub book-read : {f : Formula} → GoodFormula f → readBook (bookBytes (bookOf f)) ≡ value (bookOf f) (length (bookBytes (bookOf f)))
+pub book-read : {f : Formula} → GoodFormula f → readBook (importedBytes f) ≡ value (bookOf f) (length (importedBytes f))
 book-read g = book-written g .read
 
 -- they fit the least buffer
-pub book-short : {f : Formula} → GoodFormula f → length (bookBytes (bookOf f)) ≤ maxWithoutFacts
+pub book-short : {f : Formula} → GoodFormula f → length (importedBytes f) ≤ maxWithoutFacts
 book-short g = book-written g .short

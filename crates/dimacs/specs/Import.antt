@@ -7,7 +7,7 @@ use lib.Dec.{ltb}
 use lib.ListN.{length, drop, replicate}
 use Rattle.literals.specs.Literal.{Literal}
 use Rattle.records.specs.Limits.{maxChoices, maxWithoutFacts}
-use Rattle.records.specs.Format.{Read, value, refused, OrderBook, HD, CS, RL, EN}
+use Rattle.records.specs.Format.{Read, value, refused, always, OrderBook, HD, CS, RL, EN}
 use Rattle.log_form.specs.Format.{twoBytes, listBytes}
 use Rattle.dimacs.specs.Text.{Formula, isDropped, ruleOf, formulaOf}
 use Rattle.dimacs.specs.declared.Imported.{Imported}
@@ -28,13 +28,13 @@ keptOf (c ∷ cs) = cond (isDropped c) (keptOf cs) (c ∷ keptOf cs)
 unfoldable pub rulesOf : List (List Literal) → List (List Literal)
 rulesOf cs = map ruleOf (keptOf cs)
 
--- The book: V of the text, the lesser U, every cost 1, no facts; R is lowered by the clauses that are dropped.
+-- The book: V of the text, the lesser U, every cost 1, no windows and no facts; R is lowered by the clauses that are dropped.
 unfoldable pub bookOf : Formula → OrderBook
 bookOf f =
     record {
       header = record { variables = f .variables; choices = choicesOf (f .variables); rules = length (rulesOf (f .clauses)) };
       costs = replicate (choicesOf (f .variables)) (record { ofYes = 1; ofNo = 1 });
-      rules = rulesOf (f .clauses);
+      rules = map always (rulesOf (f .clauses));
       facts = [];
     }
 
@@ -57,10 +57,13 @@ unfoldable pub rulesBytes : List (List Literal) → List ℕ
 rulesBytes [] = []
 rulesBytes (r ∷ rs) = ruleBytes r ++ rulesBytes rs
 
--- HD, the CS, the RL, EN.
-unfoldable pub bookBytes : OrderBook → List ℕ
-bookBytes b =
-    HD ++ (b .header .variables ∷ b .header .choices ∷ b .header .rules ∷ costsBytes (b .header .choices) 1 ++ (rulesBytes (b .rules) ++ EN))
+-- HD, the CS, the RL, EN: of v variables, u choices and these rules.
+unfoldable pub bookBytes : ℕ → ℕ → List (List Literal) → List ℕ
+bookBytes v u rs = HD ++ (v ∷ u ∷ length rs ∷ costsBytes u 1 ++ (rulesBytes rs ++ EN))
+
+-- The bytes of the book of a formula.
+abbrev pub importedBytes : Formula → List ℕ
+importedBytes f = bookBytes (f .variables) (choicesOf (f .variables)) (rulesOf (f .clauses))
 
 -- ---- the call
 
@@ -70,12 +73,12 @@ imported room s = cond (ltb room maxWithoutFacts) (refused 8 0) (formulaOf s)
 
 -- The answer: the book's length, or the refusal.
 unfoldable pub importAnswer : Read Formula → Imported
-importAnswer (value f end) = Imported.Written (length (bookBytes (bookOf f)))
+importAnswer (value f end) = Imported.Written (length (importedBytes f))
 importAnswer (refused number place) = Imported.Refused number place
 
 -- The buffer at exit: the book and then the old bytes, or as it was.
 unfoldable pub bufferAfter : Read Formula → List ℕ → List ℕ
-bufferAfter (value f end) before = bookBytes (bookOf f) ++ drop (length (bookBytes (bookOf f))) before
+bufferAfter (value f end) before = importedBytes f ++ drop (length (importedBytes f)) before
 bufferAfter (refused number place) before = before
 
 -- What the call says, of what it is to import.

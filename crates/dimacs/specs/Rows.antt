@@ -14,7 +14,7 @@ use Rattle.dimacs.specs.Ascii.{ascii}
 use Rattle.dimacs.specs.Text.{Formula, isDropped, ruleOf, isBlank, isLineEnd, isGap, isDigit, isFirstDigit, run, numeral, stands, after}
 use Rattle.dimacs.specs.Text.{oneOrMore, word, line, comments, number, numberUpTo, limited, signed, nextSigned, literalsFrom, clauseFrom}
 use Rattle.dimacs.specs.Text.{clausesFrom, textEnds, countFrom, countsFrom, wordAndBlanks, headOf, bodyFrom, formulaOf}
-use Rattle.dimacs.specs.Import.{keptOf, rulesOf, bookOf, costBytes, costsBytes, ruleBytes, rulesBytes, bookBytes, imported}
+use Rattle.dimacs.specs.Import.{keptOf, rulesOf, costBytes, costsBytes, ruleBytes, rulesBytes, bookBytes, importedBytes, imported}
 
 -- ---- what texts mean
 
@@ -82,7 +82,7 @@ rows-agree = refl
 
 -- The bytes that a formula's book has.
 abbrev bytesOf : Read Formula → List ℕ
-bytesOf (value f end) = bookBytes (bookOf f)
+bytesOf (value f end) = importedBytes f
 bytesOf (refused number place) = []
 
 -- Literals in rising order, repeats once; clauses in their order; the clause with 1 and -1 dropped and R lowered; no literals: a count of 0.
@@ -93,7 +93,7 @@ pub book-agrees : bytesOf (formulaOf (ascii "p cnf 3 4\n3 -1 3 0\n2 1 -1 0\n0\n-
 unfolding ascii formulaOf bodyFrom headOf wordAndBlanks countsFrom countFrom textEnds clausesFrom clauseFrom literalsFrom nextSigned signed limited
     numberUpTo number comments line word oneOrMore after stands numeral run isFirstDigit isDigit isGap isLineEnd isBlank ruleOf isDropped literalsOf
     members membersBelow membersFrom disjoint has bit variable yesMask noMask yesBit noBit ones
-    bookOf rulesOf keptOf bookBytes costsBytes costBytes rulesBytes ruleBytes twoBytes listBytes byteOf
+    rulesOf keptOf bookBytes costsBytes costBytes rulesBytes ruleBytes twoBytes listBytes byteOf
 book-agrees = refl
 
 -- A buffer of 1,638 bytes is too short, before the text is looked at; one of 1,639 serves.

@@ -9,14 +9,16 @@ use native.Mathlib.Omega.{arith}
 use lib.Dec.{ltb}
 use lib.ListN.{length, take, drop}
 use lib.Seq.{take-at}
+use Rattle.dates.specs.declared.Moment.{Moment}
 use Rattle.literals.specs.Truth.{allHold}
 use Rattle.records.specs.Limits.{maxWithoutFacts}
 use Rattle.records.specs.Format.{Read, value, refused}
-use Rattle.sat.specs.Meaning.{isModel}
+use Rattle.sat.specs.Meaning.{obeysRules, isModel}
 use Rattle.problem.specs.Problem.{problemOf}
+use Rattle.problem.proofs.InForceLaws.{always-in-force}
 use Rattle.consequence.specs.Meaning.{models}
 use Rattle.dimacs.specs.Text.{Formula, satisfies, formulaOf}
-use Rattle.dimacs.specs.Import.{bookOf, bookBytes, imported, importAnswer, bufferAfter, ImportedAs}
+use Rattle.dimacs.specs.Import.{rulesOf, bookOf, importedBytes, imported, importAnswer, bufferAfter, ImportedAs}
 use Rattle.dimacs.specs.declared.Imported.{Imported}
 use Rattle.dimacs.specs.declared.Imported.the-variants as Imported
 use Rattle.dimacs.proofs.Good.{GoodFormula, formula-good}
@@ -26,12 +28,12 @@ use Rattle.dimacs.proofs.PlaceLaws.{text-refusals}
 use Rattle.engine.specs.Dimacs.{BookOf, Leaves, RefusalOf, DimacsCall}
 
 -- a filling is a model of the book exactly where it satisfies the formula: there is no fact to make true
-same-models : (f : Formula) (g : ℕ) → models (problemOf (bookOf f)) g ≡ satisfies g f
+same-models : (f : Formula) (moment : Moment) (g : ℕ) → models (problemOf moment (bookOf f)) g ≡ satisfies g f
 unfolding models problemOf bookOf isModel allHold satisfies
-same-models f g = and-true _ ∙ obeys-kept g (f .clauses)
+same-models f moment g = and-true _ ∙ ap (obeysRules g) (always-in-force moment (rulesOf (f .clauses))) ∙ obeys-kept g (f .clauses)
 
 -- the book of a good formula
-good-book : {f : Formula} → GoodFormula f → BookOf f (bookBytes (bookOf f)) (length (bookBytes (bookOf f)))
+good-book : {f : Formula} → GoodFormula f → BookOf f (importedBytes f) (length (importedBytes f))
 unfolding bookOf
 good-book {f} w = record {
   book = bookOf f;
@@ -41,7 +43,7 @@ good-book {f} w = record {
   lesser = refl;
   every-cost = refl;
   no-facts = refl;
-  same-models = λ g h. same-models f g;
+  same-models = λ moment g h. same-models f moment g;
 }
 
 -- a text that is taken is read from a buffer that is long enough
@@ -85,8 +87,8 @@ dimacs-call s before {after} {r} w = record {
     go (refused number place) e k = k .answered
     go (value f end) e k =
         let good = good-book (formula-good s (taken (length before) s e)) in
-        let front : take (length (bookBytes (bookOf f))) after ≡ bookBytes (bookOf f) =
-        ap (take (length (bookBytes (bookOf f)))) (k .buffer) ∙ take-at (bookBytes (bookOf f)) (drop (length (bookBytes (bookOf f))) before) _ refl in
+        let front : take (length (importedBytes f)) after ≡ importedBytes f =
+        ap (take (length (importedBytes f))) (k .buffer) ∙ take-at (importedBytes f) (drop (length (importedBytes f)) before) _ refl in
         rw (k .answered) (rw front good)
 
 -- the book that was written is short

@@ -4,6 +4,8 @@ use mathlib.Core.Path.{_≡_, refl, sym, ap, _∙_}
 use mathlib.Core.Bool.{Bool, true, false, cond}
 use mathlib.Core.List.{List}
 use Prim.Native.Nat.{ℕ}
+use Rattle.dates.specs.Windows.{isMoment}
+use Rattle.dates.specs.declared.Moment.{Moment}
 use Rattle.literals.specs.Laws.{and-both}
 use Rattle.records.specs.Format.{Read, value, refused, OrderBook}
 use Rattle.sat.specs.Meaning.{isModel}
@@ -23,6 +25,7 @@ use Rattle.engine.specs.SameScreens.{Reordered, BothRead}
 use Rattle.engine.specs.declared.ModelAnswer.{ModelAnswer}
 use Rattle.engine.specs.declared.ModelAnswer.the-variants as ModelAnswer
 use Rattle.engine.proofs.NineLaws.{after-nine}
+use Rattle.engine.proofs.PosedLaws.{posed-book, posed-impossible}
 
 -- ---- of a problem
 
@@ -44,64 +47,69 @@ module _ (p : Problem) where
 
 -- ---- of the answer
 
-pub answer-first : (m : Read OrderBook) → AnswersFirst m (modelAnswer m)
+pub answer-first : (m : Read Problem) → AnswersFirst m (modelAnswer m)
 unfolding modelAnswer withModel
 answer-first (refused number place) = refl
-answer-first (value b end) = go (hasModel (problemOf b)) refl
+answer-first (value p end) = go (hasModel p) refl
   where
-    go : (h : Bool) → hasModel (problemOf b) ≡ h
-        → AnswersFirst (value b end) (cond h (ModelAnswer.Model (firstModel (problemOf b))) (ModelAnswer.Refused 9 0))
-    go true e = first-model (problemOf b) e
-    go false e = no-filling (problemOf b) e
+    go : (h : Bool) → hasModel p ≡ h → AnswersFirst (value p end) (cond h (ModelAnswer.Model (firstModel p)) (ModelAnswer.Refused 9 0))
+    go true e = first-model p e
+    go false e = no-filling p e
 
 -- ---- nothing is free
 
-pub equal-bytes : (s : List ℕ) → EqualModels s s
-equal-bytes s = record { same = λ c d. c .said ∙ sym (d .said) }
+pub equal-bytes : (moment : Moment) (s : List ℕ) → EqualModels moment s s
+equal-bytes moment s = record { same = λ c d. c .said ∙ sym (d .said) }
 
--- the models of the one are models of the other
-obeyed-model : {b c : OrderBook} → SameObeyed b c → (f : ℕ) → ModelFilling (problemOf b) f → ModelFilling (problemOf c) f
-unfolding problemOf models isModel
-obeyed-model x f m =
-    let w = and-both _ _ (m .is-model) in
-    record { below = rw (x .same-variables) at (m .below); is-model = rw (x .there f (m .below) (w .0), ← (x .same-facts)) (w .1) }
+module _ {moment : Moment} where
+  -- the models of the one are models of the other
+  obeyed-model : {b c : OrderBook} → SameObeyed moment b c → (f : ℕ) → ModelFilling (problemOf moment b) f → ModelFilling (problemOf moment c) f
+  unfolding problemOf models isModel
+  obeyed-model x f m =
+      let w = and-both _ _ (m .is-model) in
+      record { below = rw (x .same-variables) at (m .below); is-model = rw (x .there f (m .below) (w .0), ← (x .same-facts)) (w .1) }
 
-obeyed-back : {b c : OrderBook} → SameObeyed b c → SameObeyed c b
-obeyed-back x = record { same-variables = sym (x .same-variables); same-facts = sym (x .same-facts); there = x .back; back = x .there }
+  obeyed-back : {b c : OrderBook} → SameObeyed moment b c → SameObeyed moment c b
+  obeyed-back x = record { same-variables = sym (x .same-variables); same-facts = sym (x .same-facts); there = x .back; back = x .there }
 
-module _ {b c : OrderBook} (x : SameObeyed b c) where
-  first-there : {f : ℕ} → First (ModelFilling (problemOf b)) f → First (ModelFilling (problemOf c)) f
-  first-there = first-as (obeyed-model x) (obeyed-model (obeyed-back x))
+  module _ {b c : OrderBook} (x : SameObeyed moment b c) where
+    first-there : {f : ℕ} → First (ModelFilling (problemOf moment b)) f → First (ModelFilling (problemOf moment c)) f
+    first-there = first-as (obeyed-model x) (obeyed-model (obeyed-back x))
 
-  has-there : hasModel (problemOf b) ≡ true → hasModel (problemOf c) ≡ true
-  has-there e = first-has (problemOf c) (first-there (first-model (problemOf b) e))
+    has-there : hasModel (problemOf moment b) ≡ true → hasModel (problemOf moment c) ≡ true
+    has-there e = first-has (problemOf moment c) (first-there (first-model (problemOf moment b) e))
 
--- the same first model, or none
-obeyed-answers : {b c : OrderBook} → SameObeyed b c → (end other : ℕ) → modelAnswer (value b end) ≡ modelAnswer (value c other)
-unfolding modelAnswer withModel
-obeyed-answers {b} {c} x end other =
-    after-nine _ _ (same-truth _ _ (has-there x) (has-there (obeyed-back x))) _ _ _
-    (λ e. ap ModelAnswer.Model (is-first-model (problemOf c) (first-there x (first-model (problemOf b) e))))
+  -- the same first model, or none
+  obeyed-answers : {b c : OrderBook} → SameObeyed moment b c → (end other : ℕ)
+      → modelAnswer (value (problemOf moment b) end) ≡ modelAnswer (value (problemOf moment c) other)
+  unfolding modelAnswer withModel
+  obeyed-answers {b} {c} x end other =
+      after-nine _ _ (same-truth _ _ (has-there x) (has-there (obeyed-back x))) _ _ _
+      (λ e. ap ModelAnswer.Model (is-first-model (problemOf moment c) (first-there x (first-model (problemOf moment b) e))))
 
--- books of which it is known in another way that the same fillings obey their rules
-module _ {related : OrderBook → OrderBook → Type 0} (obeyed : (b c : OrderBook) → related b c → SameObeyed b c) where
-  models-equal : {s t : List ℕ} → BothRead related s t → EqualModels s t
-  models-equal x =
-      let here = ap modelAnswer (x .accepted) ∙ obeyed-answers (obeyed (x .book) (x .other) (x .same)) (x .end) (x .other-end) in
-      record { same = λ c d. c .said ∙ here ∙ sym (d .said ∙ ap modelAnswer (x .other-accepted)) }
+  -- books of which it is known in another way that the same fillings obey their rules in force
+  module _ {related : OrderBook → OrderBook → Type 0} (obeyed : (b c : OrderBook) → related b c → SameObeyed moment b c) where
+    models-equal : {s t : List ℕ} → BothRead related s t → EqualModels moment s t
+    models-equal {s} {t} x = go (isMoment moment) refl
+      where
+        go : (h : Bool) → isMoment moment ≡ h → EqualModels moment s t
+        go true e =
+            let here = ap modelAnswer (posed-book moment s e (x .accepted)) ∙ obeyed-answers (obeyed (x .book) (x .other) (x .same)) (x .end) (x .other-end) in
+            record { same = λ c d. c .said ∙ here ∙ sym (d .said ∙ ap modelAnswer (posed-book moment t e (x .other-accepted))) }
+        go false e = record { same = λ c d. c .said ∙ ap modelAnswer (posed-impossible moment s e ∙ sym (posed-impossible moment t e)) ∙ sym (d .said) }
 
-pub same-model : {s t : List ℕ} → BothRead SameObeyed s t → EqualModels s t
-same-model = models-equal (λ b c x. x)
+  pub same-model : {s t : List ℕ} → BothRead (SameObeyed moment) s t → EqualModels moment s t
+  same-model = models-equal (λ b c x. x)
 
--- rules in another order are obeyed by the same fillings
-pub reordered-obeyed : {b c : OrderBook} → Reordered b c → b .facts ≡ c .facts → SameObeyed b c
-reordered-obeyed x facts =
-    record {
-      same-variables = x .same-variables;
-      same-facts = facts;
-      there = λ f h o. each-rules _ _ (λ l m. rules-each _ _ o l (x .rules-back l m));
-      back = λ f h o. each-rules _ _ (λ l m. rules-each _ _ o l (x .rules-there l m));
-    }
+  -- rules in another order are obeyed by the same fillings
+  pub reordered-obeyed : {b c : OrderBook} → Reordered moment b c → b .facts ≡ c .facts → SameObeyed moment b c
+  reordered-obeyed x facts =
+      record {
+        same-variables = x .same-variables;
+        same-facts = facts;
+        there = λ f h o. each-rules _ _ (λ l m. rules-each _ _ o l (x .rules-back l m));
+        back = λ f h o. each-rules _ _ (λ l m. rules-each _ _ o l (x .rules-there l m));
+      }
 
-pub reordered-model : {s t : List ℕ} → BothRead (λ b c. Reordered b c × (b .facts ≡ c .facts)) s t → EqualModels s t
-reordered-model = models-equal (λ b c x. reordered-obeyed (x .0) (x .1))
+  pub reordered-model : {s t : List ℕ} → BothRead (λ b c. Reordered moment b c × (b .facts ≡ c .facts)) s t → EqualModels moment s t
+  reordered-model = models-equal (λ b c x. reordered-obeyed (x .0) (x .1))

@@ -1,5 +1,6 @@
 mod NineLaws
 pub mod FirstModel
+pub mod PosedLaws
 pub mod ProblemLaws
 mod AnswerLaws
 mod StepLaws
@@ -7,3 +8,4 @@ pub mod FewerReasons
 pub mod DimacsLaws
 pub mod LogLaws
 pub mod SameScreens
+pub mod Moments

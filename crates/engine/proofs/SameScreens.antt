@@ -11,14 +11,13 @@ use lib.ListN.{length}
 use borrow.Author.Tests.{le-ltb, lt-ltb}
 use Rattle.sets.specs.Sets.{bit, full, inter}
 use Rattle.sets.specs.Laws.Bits.{bit-le, bit-full, bit-full-high, bit-inter, ext}
+use Rattle.dates.specs.declared.Moment.{Moment}
 use Rattle.literals.specs.declared.LiteralSet.{LiteralSet}
 use Rattle.records.specs.Limits.{maxLog}
-use Rattle.records.specs.Format.{value, OrderBook, readBook}
+use Rattle.records.specs.Format.{value, OrderBook}
 use Rattle.book.specs.Answer.{table}
-use Rattle.book.proofs.WellFormed.{well-formed}
 use Rattle.problem.specs.Problem.{Problem, problemOf, given}
 use Rattle.problem.specs.Proper.{ProperProblem}
-use Rattle.problem.proofs.BookLaws.{proper-book}
 use Rattle.sat.specs.Laws.Rules.{rules-each, each-rules}
 use Rattle.first_model.specs.Meaning.{weight, First}
 use Rattle.first_model.specs.Laws.Order.{agree-weight, weight-agree, first-weight}
@@ -31,8 +30,8 @@ use Rattle.step.specs.Meaning.{questionOf, Step, stepOf}
 use Rattle.log_form.specs.Format.{Log, logBytes}
 use Rattle.log.specs.Meaning.{runFor, logOf}
 use Rattle.log.specs.Laws.SameFillings.{same-next, same-run}
-use Rattle.engine.specs.Calls.{withModel, firstModel, modelAnswer, ModelCall, consequenceAnswer, ConsequenceCall, between, stepSays, stepFor, stepAnswer}
-use Rattle.engine.specs.Calls.{StepCall, LogOutcome, logged, refusedWith, logOutcome, logAnswer, bufferAfter, LoggedAs, LogCall}
+use Rattle.engine.specs.Calls.{posed, withModel, firstModel, modelAnswer, ModelCall, consequenceAnswer, ConsequenceCall, between}
+use Rattle.engine.specs.Calls.{stepSays, stepFor, stepAnswer, StepCall, LogOutcome, logged, refusedWith, logOutcome, logAnswer, bufferAfter, LoggedAs, LogCall}
 use Rattle.engine.specs.SameScreens.{SameScreens, Reordered, Retyped, BothNine, EqualLogs, SameLogs, choicesIn, SameChosen, SameModels, SameAnswers}
 use Rattle.engine.specs.declared.ModelAnswer.{ModelAnswer}
 use Rattle.engine.specs.declared.ModelAnswer.the-variants as ModelAnswer
@@ -44,12 +43,13 @@ use Rattle.engine.specs.declared.LogAnswer.{LogAnswer}
 use Rattle.engine.specs.declared.LogAnswer.the-variants as LogAnswer
 use Rattle.engine.proofs.NineLaws.{none-has, after-nine}
 use Rattle.engine.proofs.FirstModel.{first-model}
+use Rattle.engine.proofs.PosedLaws.{posed-book, posed-proper}
 use Rattle.engine.proofs.StepLaws.{sound-between}
 
 -- ---- two problems
 
 -- the problems of two such books
-problems-same : {b c : OrderBook} → SameScreens b c → SameOverChoices (problemOf b) (problemOf c)
+problems-same : {moment : Moment} {b c : OrderBook} → SameScreens moment b c → SameOverChoices (problemOf moment b) (problemOf moment c)
 unfolding problemOf
 problems-same x =
     record { same-choices = ap full (x .same-choices); same-costs = ap table (x .same-costs); same-facts = x .same-facts; same-fillings = x .same-fillings }
@@ -99,24 +99,23 @@ chosen-weight {p} {q} w z x k e {f} {g} a m =
 
 -- ---- one log
 
--- a book with a buffer that is long enough: the log, or 9
+-- a problem with a buffer that is long enough: the log, or 9
 log-or-nine : Problem → LogOutcome
 log-or-nine p = cond (hasModel p) (logged (logOf (runFor p))) (refusedWith 9 0)
 
-long-enough : (s : List ℕ) {b : OrderBook} {end : ℕ} → readBook s ≡ value b end → (room : ℕ) → maxLog ≤ room
-    → logOutcome room (readBook s) ≡ log-or-nine (problemOf b)
-unfolding logOutcome withModel log-or-nine
-long-enough s e room l = rw (e, le-ltb room maxLog l, logOutcome) refl
+module _ (moment : Moment) (s : List ℕ) {p : Problem} {end : ℕ} (e : posed moment s ≡ value p end) where
+  long-enough : (room : ℕ) → maxLog ≤ room → logOutcome room (posed moment s) ≡ log-or-nine p
+  unfolding logOutcome withModel log-or-nine
+  long-enough room l = rw (e, le-ltb room maxLog l, logOutcome) refl
 
-came-to : {s : List ℕ} {b : OrderBook} {end : ℕ} → readBook s ≡ value b end → {before after : List ℕ} {r : LogAnswer} → LogCall s before after r
-    → maxLog ≤ length before → LoggedAs (log-or-nine (problemOf b)) before after r
-came-to {s} e {before} c l = rw (long-enough s e (length before) l) at (c .said)
+  came-to : {before after : List ℕ} {r : LogAnswer} → LogCall s moment before after r → maxLog ≤ length before → LoggedAs (log-or-nine p) before after r
+  came-to {before} c l = rw (long-enough (length before) l) at (c .said)
 
--- and with one that is short: 8
-gives-eight : {s : List ℕ} {b : OrderBook} {end : ℕ} → readBook s ≡ value b end → {before after : List ℕ} {r : LogAnswer} → LogCall s before after r
-    → length before < maxLog → (r ≡ LogAnswer.Refused 8 0) × (after ≡ before)
-unfolding logOutcome logAnswer bufferAfter
-gives-eight e {before} c l = let k = rw (e, lt-ltb (length before) maxLog l, logOutcome) at (c .said) in (k .answered, k .buffer)
+  -- and with one that is short: 8
+  gives-eight : {before after : List ℕ} {r : LogAnswer} → LogCall s moment before after r → length before < maxLog
+      → (r ≡ LogAnswer.Refused 8 0) × (after ≡ before)
+  unfolding logOutcome logAnswer bufferAfter
+  gives-eight {before} c l = let k = rw (e, lt-ltb (length before) maxLog l, logOutcome) at (c .said) in (k .answered, k .buffer)
 
 -- one log into two buffers
 module _ {before after other-before other-after : List ℕ} {r o : LogAnswer} where
@@ -142,31 +141,44 @@ module _ {before after other-before other-after : List ℕ} {r o : LogAnswer} wh
 
 -- ---- two books
 
-module _ {s t : List ℕ} (x : Retyped s t) where
-  w : ProperProblem (problemOf (x .book))
-  w = proper-book (well-formed s (x .accepted))
+module _ {moment : Moment} {s t : List ℕ} (x : Retyped moment s t) where
+  -- The two problems.
+  abbrev one : Problem
+  one = problemOf moment (x .books .book)
 
-  z : ProperProblem (problemOf (x .other))
-  z = proper-book (well-formed t (x .other-accepted))
+  abbrev other : Problem
+  other = problemOf moment (x .books .other)
 
-  alike : SameOverChoices (problemOf (x .book)) (problemOf (x .other))
-  alike = problems-same (x .same)
+  here : posed moment s ≡ value one (x .books .end)
+  here = posed-book moment s (x .possible) (x .books .accepted)
+
+  there : posed moment t ≡ value other (x .books .other-end)
+  there = posed-book moment t (x .possible) (x .books .other-accepted)
+
+  w : ProperProblem one
+  w = posed-proper moment s here
+
+  z : ProperProblem other
+  z = posed-proper moment t there
+
+  alike : SameOverChoices one other
+  alike = problems-same (x .books .same)
 
   -- the answers by `withModel`
   answers-same : {A : Type 0} (answer : Problem → A) (refuse : ℕ → ℕ → A)
-      → (hasModel (problemOf (x .book)) ≡ true → answer (problemOf (x .book)) ≡ answer (problemOf (x .other)))
-      → withModel answer refuse (readBook s) ≡ withModel answer refuse (readBook t)
+      → (hasModel one ≡ true → answer one ≡ answer other)
+      → withModel answer refuse (posed moment s) ≡ withModel answer refuse (posed moment t)
   unfolding withModel
-  answers-same answer refuse h = rw (x .accepted, x .other-accepted, withModel) (after-nine _ _ (has-same w z alike) _ _ _ h)
+  answers-same answer refuse h = rw (here, there, withModel) (after-nine _ _ (has-same w z alike) _ _ _ h)
 
-  consequence-same : {r o : ConsequenceAnswer} → ConsequenceCall s r → ConsequenceCall t o → r ≡ o
+  consequence-same : {r o : ConsequenceAnswer} → ConsequenceCall s moment r → ConsequenceCall t moment o → r ≡ o
   unfolding consequenceAnswer
   consequence-same c d =
       c .said
       ∙ answers-same (λ p. ConsequenceAnswer.Forced (consequenceOf p)) ConsequenceAnswer.Refused
       (λ some. ap ConsequenceAnswer.Forced (same-consequence w z alike)) ∙ sym (d .said)
 
-  next-same : {on off : ℕ} {r o : StepAnswer} → StepCall s on off r → StepCall t on off o → r ≡ o
+  next-same : {on off : ℕ} {r o : StepAnswer} → StepCall s moment on off r → StepCall t moment on off o → r ≡ o
   unfolding stepAnswer
   next-same {on} {off} c d =
       let known : LiteralSet = record { yes = on; no = off } in
@@ -175,78 +187,77 @@ module _ {s t : List ℕ} (x : Retyped s t) where
   -- ---- the log
 
   -- with rooms that are long enough both calls come to the same
-  outcome-same : log-or-nine (problemOf (x .book)) ≡ log-or-nine (problemOf (x .other))
+  outcome-same : log-or-nine one ≡ log-or-nine other
   unfolding log-or-nine
   outcome-same = after-nine _ _ (has-same w z alike) _ _ _ (λ some. ap (λ (ss : List Step). logged (logOf ss)) (same-run w z alike some))
 
-  pub outcomes-same : (room other : ℕ) → maxLog ≤ room → maxLog ≤ other → logOutcome room (readBook s) ≡ logOutcome other (readBook t)
-  outcomes-same room other l k = long-enough s (x .accepted) room l ∙ outcome-same ∙ sym (long-enough t (x .other-accepted) other k)
+  pub outcomes-same : (room least : ℕ) → maxLog ≤ room → maxLog ≤ least → logOutcome room (posed moment s) ≡ logOutcome least (posed moment t)
+  outcomes-same room least l k = long-enough moment s here room l ∙ outcome-same ∙ sym (long-enough moment t there least k)
 
-  logs-same : SameLogs s t
+  logs-same : SameLogs moment s t
   logs-same = record {
-    equal = λ c d l k. one-log _ (came-to (x .accepted) c l) (rw (sym outcome-same) at (came-to (x .other-accepted) d k));
-    short = λ c l. gives-eight (x .accepted) c l;
-    other-short = λ c l. gives-eight (x .other-accepted) c l;
+    equal = λ c d l k. one-log _ (came-to moment s here c l) (rw (sym outcome-same) at (came-to moment t there d k));
+    short = λ c l. gives-eight moment s here c l;
+    other-short = λ c l. gives-eight moment t there c l;
     nine = λ c d l k m n. (c .nine .none-nine l m, d .nine .none-nine k n);
   }
 
   -- ---- one model
 
   -- the first models are the same over the choices
-  chosen-same : {f g : ℕ} → First (ModelFilling (problemOf (x .book))) f → First (ModelFilling (problemOf (x .other))) g
-      → inter f (full (x .book .header .choices)) ≡ inter g (full (x .book .header .choices))
+  chosen-same : {f g : ℕ} → First (ModelFilling one) f → First (ModelFilling other) g → inter f (one .choices) ≡ inter g (one .choices)
   unfolding problemOf
   chosen-same {f} {g} a c =
-      let k = x .book .header .choices in
+      let k = x .books .book .header .choices in
       let same = weight-agree k f g (omega (
         arith,
         chosen-weight w z alike k refl a (c .among),
-        chosen-weight z w (over-choices-back alike) k (ap full (sym (x .same .same-choices))) c (a .among),
+        chosen-weight z w (over-choices-back alike) k (ap full (sym (x .books .same .same-choices))) c (a .among),
       )) in
       ext (inter f (full k)) (inter g (full k)) (λ v. by-cases (decLt v k)
       (λ l. omega (arith, bit-inter f (full k) v, bit-inter g (full k) v, same v l))
       (λ l. omega (arith, bit-inter f (full k) v, bit-inter g (full k) v, bit-full-high k v (omega arith))))
 
-  both-models : {r o : ModelAnswer} → ModelCall s r → ModelCall t o → SameChosen (choicesIn (readBook s)) r o ⊎ BothNine ModelAnswer.Refused r o
+  both-models : {r o : ModelAnswer} → ModelCall s moment r → ModelCall t moment o → SameChosen (choicesIn (posed moment s)) r o ⊎ BothNine ModelAnswer.Refused r o
   unfolding modelAnswer withModel
   both-models {r} {o} c d =
-      rw (x .accepted) (go (hasModel (problemOf (x .book))) refl (rw (x .accepted, withModel) at (c .said))
-      (rw (x .other-accepted, withModel, ← (has-same w z alike)) at (d .said)))
+      rw here (go (hasModel one) refl (rw (here, withModel) at (c .said))
+      (rw (there, withModel, ← (has-same w z alike)) at (d .said)))
     where
-      go : (h : Bool) → hasModel (problemOf (x .book)) ≡ h
-          → r ≡ cond h (ModelAnswer.Model (firstModel (problemOf (x .book)))) (ModelAnswer.Refused 9 0)
-          → o ≡ cond h (ModelAnswer.Model (firstModel (problemOf (x .other)))) (ModelAnswer.Refused 9 0)
-          → SameChosen (full (x .book .header .choices)) r o ⊎ BothNine ModelAnswer.Refused r o
+      go : (h : Bool) → hasModel one ≡ h
+          → r ≡ cond h (ModelAnswer.Model (firstModel one)) (ModelAnswer.Refused 9 0)
+          → o ≡ cond h (ModelAnswer.Model (firstModel other)) (ModelAnswer.Refused 9 0)
+          → SameChosen (one .choices) r o ⊎ BothNine ModelAnswer.Refused r o
       go true e a b =
           inl (record {
-            filling = firstModel (problemOf (x .book));
+            filling = firstModel one;
             answered = a;
-            other-filling = firstModel (problemOf (x .other));
+            other-filling = firstModel other;
             other-answered = b;
             same-chosen = chosen-same (first-model _ e) (first-model _ (sym (has-same w z alike) ∙ e));
           })
       go false e a b = inr (a, b)
 
-  models-same : SameModels s t
+  models-same : SameModels moment s t
   models-same = record {
-    none-there = λ n. rw (x .other-accepted) (no-filling _ (sym (has-same w z alike) ∙ none-has _ (rw (x .accepted) at n)));
-    none-back = λ n. rw (x .accepted) (no-filling _ (has-same w z alike ∙ none-has _ (rw (x .other-accepted) at n)));
+    none-there = λ n. rw there (no-filling _ (sym (has-same w z alike) ∙ none-has _ (rw here at n)));
+    none-back = λ n. rw here (no-filling _ (has-same w z alike ∙ none-has _ (rw there at n)));
     both = both-models;
   }
 
   -- ---- all calls
 
-  pub same-screens : SameAnswers s t
+  pub same-screens : SameAnswers moment s t
   same-screens = record { models = models-same; consequence = consequence-same; next-step = next-same; logs = logs-same }
 
 -- ---- rules in another order
 
-reordered-back : {b c : OrderBook} → Reordered b c → Reordered c b
+reordered-back : {moment : Moment} {b c : OrderBook} → Reordered moment b c → Reordered moment c b
 reordered-back x = record { same-variables = sym (x .same-variables); rules-there = x .rules-back; rules-back = x .rules-there }
 
 -- a filling obeys rules that are all among others which it obeys
-reordered-fillings : {b c : OrderBook} → Reordered b c → b .header .choices ≡ c .header .choices → (g : ℕ) → Restriction (theoryOf (problemOf b)) g
-    → Restriction (theoryOf (problemOf c)) g
+reordered-fillings : {moment : Moment} {b c : OrderBook} → Reordered moment b c → b .header .choices ≡ c .header .choices → (g : ℕ)
+    → Restriction (theoryOf (problemOf moment b)) g → Restriction (theoryOf (problemOf moment c)) g
 unfolding problemOf theoryOf
 reordered-fillings x choices g r =
     record {
@@ -256,7 +267,8 @@ reordered-fillings x choices g r =
       restricted = rw choices at (r .restricted);
     }
 
-pub reordered-same : {b c : OrderBook} → Reordered b c → b .header .choices ≡ c .header .choices → b .costs ≡ c .costs → b .facts ≡ c .facts → SameScreens b c
+pub reordered-same : {moment : Moment} {b c : OrderBook} → Reordered moment b c → b .header .choices ≡ c .header .choices → b .costs ≡ c .costs
+    → b .facts ≡ c .facts → SameScreens moment b c
 reordered-same x choices costs facts =
     record {
       same-choices = choices;

@@ -11,9 +11,10 @@ use Rattle.sets.specs.Sets.{subset}
 use Rattle.sets.specs.Laws.Subset.{subset-within, within-subset}
 use Rattle.literals.specs.declared.LiteralSet.{LiteralSet}
 use Rattle.literals.specs.Laws.{and-both}
+use Rattle.dates.specs.declared.Moment.{Moment}
 use Rattle.records.specs.Format.{Read, value, refused, OrderBook, readBook}
 use Rattle.book.specs.Answer.{maskedBook, table, bookAnswer, tableAnswer}
-use Rattle.book.proofs.WellFormed.{WellFormed, well-formed}
+use Rattle.book.proofs.WellFormed.{WellFormed}
 use Rattle.book.specs.declared.Reading.{Reading}
 use Rattle.book.specs.declared.Verdict.the-variants as Verdict
 use Rattle.book.proofs.PartLaws.{book-refused}
@@ -21,7 +22,6 @@ use Rattle.sat.specs.Laws.Assigns.{posed-with}
 use Rattle.problem.specs.Problem.{Problem, problemOf, given}
 use Rattle.problem.specs.Masked.{maskedFrom, yesIn, noIn}
 use Rattle.problem.specs.Proper.{ProperProblem}
-use Rattle.problem.proofs.BookLaws.{proper-book}
 use Rattle.problem.proofs.SearchableLaws.{rules-short}
 use Rattle.problem.specs.declared.MaskedProblem.{MaskedProblem}
 use Rattle.consequence.specs.Meaning.{models, hasModel, consequenceOf, Theory, theoryOf, contradicts}
@@ -39,14 +39,15 @@ use Rattle.log.specs.Contracts.{putStep}
 use Rattle.log.specs.Laws.OneStep.{choices-below, forced}
 use Rattle.log.specs.Laws.Explains.{consistent}
 use Rattle.log.proofs.RunLaws.{of-parts}
-use Rattle.engine.specs.Calls.{withModel, between, stepSays, stepFor, stepAnswer, IsNext, StepCall}
+use Rattle.engine.specs.Calls.{readAt, posed, withModel, between, stepSays, stepFor, stepAnswer, IsNext, StepCall}
 use Rattle.engine.specs.Contracts.{theoryIn, forcedIn, FoundForced, stepIn, Steppable, StepReady}
 use Rattle.engine.specs.declared.ConsequenceAnswer.{ConsequenceAnswer}
 use Rattle.engine.specs.declared.ConsequenceAnswer.the-variants as ConsequenceAnswer
 use Rattle.engine.specs.declared.StepAnswer.{StepAnswer}
 use Rattle.engine.specs.declared.StepAnswer.the-variants as StepAnswer
 use Rattle.engine.proofs.NineLaws.{nine-exactly}
-use Rattle.engine.proofs.ProblemLaws.{theory-same, forced-same, contradicts-has, Taken, same-problem, same-costs}
+use Rattle.engine.proofs.ProblemLaws.{theory-same, forced-same, contradicts-has, Taken, taken-posed, same-problem, same-costs}
+use Rattle.engine.proofs.PosedLaws.{posed-refused, posed-proper}
 
 -- ---- the flag of a test
 
@@ -138,17 +139,17 @@ module _ (p : MaskedProblem) (costs : List (List ℕ)) (w : Steppable p costs) (
 
 -- ---- a book
 
-module _ {b : OrderBook} (w : WellFormed b) where
+module _ {b : OrderBook} (w : WellFormed b) (moment : Moment) where
   -- the answer as a function of the theory and of what is forced
   answerBy : LiteralSet → Theory → LiteralSet → StepAnswer
   answerBy known t c =
-      cond (not (hasModel (problemOf b))) (StepAnswer.Refused 9 0)
-      (cond (between (given (problemOf b)) known c) (stepSays (stepOf (asking t (problemOf b .costs) c known))) (StepAnswer.Refused 10 0))
+      cond (not (hasModel (problemOf moment b))) (StepAnswer.Refused 9 0)
+      (cond (between (given (problemOf moment b)) known c) (stepSays (stepOf (asking t (problemOf moment b .costs) c known))) (StepAnswer.Refused 10 0))
 
-  pub step-says : (end on off : ℕ) → stepIn (maskedFrom (maskedBook b)) (table (b .costs)) (record { yes = on; no = off }) ≡ stepAnswer on off (value b end)
+  pub step-says : (end on off : ℕ) → stepIn (maskedFrom moment (maskedBook b)) (table (b .costs)) (record { yes = on; no = off }) ≡ stepAnswer on off (value (problemOf moment b) end)
   unfolding stepIn stepAnswer stepFor withModel answerBy problemOf
-  step-says end on off = rw (contradicts-has w) (ap₂ (answerBy (record { yes = on; no = off })) (theory-same w) (forced-same w)
-      ∙ cond-not (hasModel (problemOf b)) _ _)
+  step-says end on off = rw (contradicts-has w moment) (ap₂ (answerBy (record { yes = on; no = off })) (theory-same w moment) (forced-same w moment)
+      ∙ cond-not (hasModel (problemOf moment b)) _ _)
 
 -- ---- the step for every filling
 
@@ -159,19 +160,16 @@ module _ {p : Problem} (w : ProperProblem p) (some : hasModel p ≡ true) where
   sound-between known b =
       facts.between-sound (choices-below w) (forced w) (consistent w some) (p .costs) (lies _ _ _ b)
 
-is-next : (s : List ℕ) (known : LiteralSet) (m : Read OrderBook) → readBook s ≡ m → (r : StepAnswer) → r ≡ stepAnswer (known .yes) (known .no) m
+is-next : (moment : Moment) (s : List ℕ) (known : LiteralSet) (m : Read Problem) → posed moment s ≡ m → (r : StepAnswer) → r ≡ stepAnswer (known .yes) (known .no) m
     → IsNext m known r
 unfolding stepAnswer stepFor withModel stepSays
-is-next s known (refused number place) e r c = c
-is-next s known (value b end) e r c = by (hasModel p) refl (between (given p) known (consequenceOf p)) refl (stepOf (questionOf p known)) refl r c
+is-next moment s known (refused number place) e r c = c
+is-next moment s known (value p end) e r c = by (hasModel p) refl (between (given p) known (consequenceOf p)) refl (stepOf (questionOf p known)) refl r c
   where
-    p : Problem
-    p = problemOf b
-
     sound : hasModel p ≡ true → between (given p) known (consequenceOf p) ≡ true → Sound (questionOf p known)
-    sound h k = sound-between (proper-book (well-formed s e)) h known k
+    sound h k = sound-between (posed-proper moment s e) h known k
 
-    says : (a : Answer) → stepOf (questionOf p known) ≡ a → Sound (questionOf p known) → (r : StepAnswer) → r ≡ stepSays a → IsNext (value b end) known r
+    says : (a : Answer) → stepOf (questionOf p known) ≡ a → Sound (questionOf p known) → (r : StepAnswer) → r ≡ stepSays a → IsNext (value p end) known r
     says (step x) d z (StepAnswer.Step g rs new cost) f =
         let same : x ≡ putStep g rs new cost = of-parts (cc) (cc) (cc) (cc) in
         subst (IsStep (questionOf p known)) same (step-is (questionOf p known) z x d)
@@ -184,13 +182,13 @@ is-next s known (value b end) e r c = by (hasModel p) refl (between (given p) kn
 
     refuses : (n : ℕ) → ((f : ℕ) → f < 2 ^ p .variables → models p f ≡ true → Between (given p) known (consequenceOf p) → ⊥) → (r : StepAnswer)
         → r ≡ StepAnswer.Refused n 0
-        → IsNext (value b end) known r
+        → IsNext (value p end) known r
     refuses n why (StepAnswer.Step g rs new cost) f = let z : _≡_ {A = ℕ} 0 1 = cc in absurd (omega arith)
     refuses n why StepAnswer.NothingLeft f = let z : _≡_ {A = ℕ} 0 1 = cc in absurd (omega arith)
     refuses n why (StepAnswer.Refused number place) f = why
 
     by : (h : Bool) → hasModel p ≡ h → (k : Bool) → between (given p) known (consequenceOf p) ≡ k → (a : Answer) → stepOf (questionOf p known) ≡ a
-        → (r : StepAnswer) → r ≡ cond h (cond k (stepSays a) (StepAnswer.Refused 10 0)) (StepAnswer.Refused 9 0) → IsNext (value b end) known r
+        → (r : StepAnswer) → r ≡ cond h (cond k (stepSays a) (StepAnswer.Refused 10 0)) (StepAnswer.Refused 9 0) → IsNext (value p end) known r
     by true h true k a d r f = says a d (sound h k) r f
     by true h false k a d r f = refuses 10 (λ g x m b. false≢true (sym k ∙ lies-between _ _ _ b)) r f
     by false h k l a d r f = refuses 9 (λ g x m b. no-filling p h .none g x m) r f
@@ -202,14 +200,14 @@ unfolding stepSays
 no-nine nothingLeft d = let z : _≡_ {A = ℕ} 0 1 = cc in omega arith
 no-nine (step x) d = let z : _≡_ {A = ℕ} 0 1 = cc in omega arith
 
-pub step-call : {s : List ℕ} {on off : ℕ} {r : StepAnswer} → r ≡ stepAnswer on off (readBook s) → StepCall s on off r
+pub step-call : {moment : Moment} {s : List ℕ} {on off : ℕ} {r : StepAnswer} → r ≡ stepAnswer on off (posed moment s) → StepCall s moment on off r
 unfolding stepAnswer stepFor
-step-call {s} {on} {off} {r} e = record {
+step-call {moment} {s} {on} {off} {r} e = record {
   said = e;
-  is-next = is-next s (record { yes = on; no = off }) (readBook s) refl r e;
+  is-next = is-next moment s (record { yes = on; no = off }) (posed moment s) refl r e;
   nine =
       rw e (nine-exactly (stepFor (record { yes = on; no = off })) StepAnswer.Refused (λ n m p q d. cc)
-      (λ p at d. other p (between (given p) (record { yes = on; no = off }) (consequenceOf p)) d) (Unit {0}) s);
+      (λ p at d. other p (between (given p) (record { yes = on; no = off }) (consequenceOf p)) d) (Unit {0}) moment s);
 }
   where
     other : (p : Problem) (k : Bool) {at : ℕ} → cond k (stepSays (stepOf (questionOf p (record { yes = on; no = off })))) (StepAnswer.Refused 10 0)
@@ -219,12 +217,12 @@ step-call {s} {on} {off} {r} e = record {
 
 -- ---- the call, where the book is refused and where it is accepted
 
-module _ {s : List ℕ} {r : Reading} {on off : ℕ} where
-  pub step-refused : {n p : ℕ} → r ≡ bookAnswer (readBook s) → r .verdict ≡ Verdict.Refused n p → StepCall s on off (StepAnswer.Refused n p)
+module _ {moment : Moment} {s : List ℕ} {r : Reading} {on off : ℕ} where
+  pub step-refused : {n p : ℕ} → r ≡ bookAnswer (readAt moment s) → r .verdict ≡ Verdict.Refused n p → StepCall s moment on off (StepAnswer.Refused n p)
   unfolding stepAnswer withModel
-  step-refused e f = step-call (rw (book-refused (readBook s) e f) refl)
+  step-refused e f = step-call (rw (posed-refused moment s (book-refused (readAt moment s) e f)) refl)
 
-  pub step-taken : {p : MaskedProblem} {costs : List (List ℕ)} {a : StepAnswer} → Taken s r → p ≡ maskedFrom (r .book)
-      → costs ≡ tableAnswer (λ b. b .costs) (readBook s) → a ≡ stepIn p costs (record { yes = on; no = off }) → StepCall s on off a
+  pub step-taken : {p : MaskedProblem} {costs : List (List ℕ)} {a : StepAnswer} → Taken moment s r → p ≡ maskedFrom moment (r .book)
+      → costs ≡ tableAnswer (λ b. b .costs) (readBook s) → a ≡ stepIn p costs (record { yes = on; no = off }) → StepCall s moment on off a
   step-taken t e c f =
-      step-call (rw (t .read .said) ((rw (same-problem t e, same-costs t e c) at f) ∙ step-says (t .well) (t .read .end) on off))
+      step-call (rw (taken-posed t) ((rw (same-problem t e, same-costs t e c) at f) ∙ step-says (t .well) moment (t .read .end) on off))

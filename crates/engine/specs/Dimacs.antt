@@ -5,6 +5,7 @@ use mathlib.Core.Logic.{_⊎_}
 use mathlib.Core.List.{List, []}
 use Prim.Native.Nat.{ℕ, _^_, _≤_, _<_, min}
 use lib.ListN.{length, take, replicate}
+use Rattle.dates.specs.declared.Moment.{Moment}
 use Rattle.records.specs.Limits.{maxChoices, maxWithoutFacts}
 use Rattle.records.specs.Format.{Read, value, refused, OrderBook, readBook}
 use Rattle.problem.specs.Problem.{problemOf}
@@ -14,8 +15,8 @@ use Rattle.dimacs.specs.Import.{imported, ImportedAs}
 use Rattle.dimacs.specs.declared.Imported.{Imported}
 use Rattle.dimacs.specs.declared.Imported.the-variants as Imported
 
--- Bytes that are read as a book over the variables of a formula: U the lesser of V and the most choices, every cost 1, no facts, and for every filling
--- of the variables, it satisfies the formula exactly when it is a model of the book.
+-- Bytes that are read as a book over the variables of a formula: U the lesser of V and the most choices, every cost 1, no facts, and at every moment for every
+-- filling of the variables, it satisfies the formula exactly when it is a model of the book.
 pub record BookOf (f : Formula) (bytes : List ℕ) (size : ℕ) : Type 0 where
   pub book : OrderBook
   pub reads : readBook bytes ≡ value book size
@@ -24,7 +25,7 @@ pub record BookOf (f : Formula) (bytes : List ℕ) (size : ℕ) : Type 0 where
   pub lesser : book .header .choices ≡ min (f .variables) maxChoices
   pub every-cost : book .costs ≡ replicate (min (f .variables) maxChoices) (record { ofYes = 1; ofNo = 1 })
   pub no-facts : book .facts ≡ []
-  pub same-models : (g : ℕ) → g < 2 ^ f .variables → models (problemOf book) g ≡ satisfies g f
+  pub same-models : (moment : Moment) (g : ℕ) → g < 2 ^ f .variables → models (problemOf moment book) g ≡ satisfies g f
 
 -- Of what is to be imported: a text that is taken leaves its book at the front of the buffer, so many bytes as are answered.
 abbrev pub Leaves : Read Formula → List ℕ → Imported → Type 0

@@ -3,16 +3,15 @@
 use mathlib.Core.Path.{_≡_}
 use mathlib.Core.Bool.{true}
 use Rattle.literals.specs.declared.LiteralSet.{LiteralSet}
-use Rattle.records.specs.Format.{Read, value, refused, OrderBook}
-use Rattle.problem.specs.Problem.{problemOf, given}
+use Rattle.records.specs.Format.{Read, value, refused}
+use Rattle.problem.specs.Problem.{Problem, given}
 use Rattle.consequence.specs.Meaning.{hasModel, consequenceOf}
 use Rattle.step.specs.Meaning.{questionOf}
 use Rattle.step.specs.IsStep.{Between}
 use Rattle.step.specs.LowerGoalFirst.{ChangesExactly}
 
--- Of a proper book with a model and a known set between the given facts and the consequence: the step changes exactly where some candidate of least cost has
+-- Of a problem with a model and a known set between the given facts and the consequence: the step changes exactly where some candidate of least cost has
 -- fewer facts than the step of the order before E6, and both cost the same. `step-changes` shows it for any bytes.
-abbrev pub StepChanges : Read OrderBook → LiteralSet → Type 0
+abbrev pub StepChanges : Read Problem → LiteralSet → Type 0
 StepChanges (refused number place) known = Unit {0}
-StepChanges (value b end) known =
-    hasModel (problemOf b) ≡ true → Between (given (problemOf b)) known (consequenceOf (problemOf b)) → ChangesExactly (questionOf (problemOf b) known)
+StepChanges (value p end) known = hasModel p ≡ true → Between (given p) known (consequenceOf p) → ChangesExactly (questionOf p known)

@@ -6,3 +6,5 @@ pub mod FirstModel
 pub mod FewerReasons
 pub mod SameScreens
 pub mod RetypedOrder
+pub mod WindowOrders
+pub mod Moments

@@ -5,18 +5,21 @@ use Prim.Native.Nat.{ℕ}
 use lib.Count.{ones, trailingZeros}
 use lib.IntN.{pos, negsuc}
 use Rattle.sets.specs.Sets.{bit, has, insert, subset, disjoint, diff, membersFrom, membersBelow, members}
-use Rattle.literals.specs.Literal.{variable, ofByte, byteOf, literalsOf}
+use Rattle.dates.specs.Calendar.{daysOfMonths, daysOfYears, dayNumber, weekday}
+use Rattle.dates.specs.Windows.{isMoment, isOpen, inForce}
+use Rattle.dates.specs.declared.Moment.{Moment}
+use Rattle.literals.specs.Literal.{byteOf, literalsOf}
 use Rattle.literals.specs.Truth.{holds, obeys, allHold, yesBit, noBit, yesMask, noMask, allHoldMasks}
 use Rattle.literals.specs.declared.LiteralSet.{LiteralSet}
 use Rattle.records.specs.Limits.{maxLog}
-use Rattle.records.specs.Format.{marked, pair, isCost, opened, rising, headerValues, headerAt, costValues, costAt, ruleValues, ruleAt, factValues}
-use Rattle.records.specs.Format.{factAt, atFact, endAt, many, factsFrom, fromRules, Read, OrderBook, readBook}
+use Rattle.records.specs.Format.{Read}
+use Rattle.book.specs.Readings.{readComputed}
 use Rattle.book.specs.Answer.{table, padded}
 use Rattle.book.specs.Orders.{order-a, order-b, order-c, order-d, order-e, order-f, order-g, order-h, order-i, order-j}
-use Rattle.book.specs.Orders.{order-empty-rule, order-nine-literals, order-either, order-fewer-facts, order-higher-goal}
+use Rattle.book.specs.Orders.{order-empty-rule, order-nine-literals, order-either, order-fewer-facts, order-higher-goal, date}
 use Rattle.sat.specs.Meaning.{everyUnder, everyFilling, someFilling, obeysRules, isModel}
 use Rattle.first_model.specs.Meaning.{weight, comesBefore, firstUnder, firstFilling}
-use Rattle.problem.specs.Problem.{Problem, problemOf, costOf}
+use Rattle.problem.specs.Problem.{Problem, rulesInForce, problemOf, costOf}
 use Rattle.consequence.specs.Meaning.{models, hasModel, follows, collect, yesConsequence, noConsequence, theoryOf, obeying, contradicts, forcesYes}
 use Rattle.consequence.specs.Meaning.{forcesNo, yesForced, noForced}
 use Rattle.items.specs.Weights.{sumBelow}
@@ -26,8 +29,8 @@ use Rattle.step.specs.Meaning.{theStep, Answer, newOn, newOff, stepFrom, answer
 use Rattle.step.specs.LowerGoalFirst.{lowerGoalFirst, lowerGoalCandidate, lowerGoalStep}
 use Rattle.log_form.specs.Format.{listBytes, twoBytes, fourBytes, recordBytes, recordsBytes, okBytes, logBytes}
 use Rattle.log.specs.Meaning.{costsWritten, withNew, runFrom, runOf, runFor}
-use Rattle.engine.specs.Calls.{withModel, firstModel, modelAnswer, consequenceAnswer, between, stepSays, stepFor, stepAnswer, logOutcome}
-use Rattle.engine.specs.Calls.{logAnswer, bufferAfter}
+use Rattle.engine.specs.Calls.{readAt, posed, withModel, firstModel, modelAnswer, consequenceAnswer, between, stepSays, stepFor, stepAnswer}
+use Rattle.engine.specs.Calls.{logOutcome, logAnswer, bufferAfter}
 use Rattle.engine.specs.declared.ModelAnswer.{ModelAnswer}
 use Rattle.engine.specs.declared.ModelAnswer.the-variants as Model
 use Rattle.engine.specs.declared.ConsequenceAnswer.{ConsequenceAnswer}
@@ -37,7 +40,7 @@ use Rattle.engine.specs.declared.StepAnswer.the-variants as Next
 use Rattle.engine.specs.declared.LogAnswer.{LogAnswer}
 use Rattle.engine.specs.declared.LogAnswer.the-variants as Log
 
-abbrev set : ℕ → ℕ → LiteralSet
+abbrev pub set : ℕ → ℕ → LiteralSet
 set y n = record { yes = y; no = n }
 
 -- The definitions that the meaning of a step computes with, and those of a book and its models, named once each.
@@ -47,11 +50,11 @@ unfolding stepOf answerWith stepFrom newOn newOff theStep allKnown trailingZeros
     noForced forcesYes forcesNo contradicts obeying ones
 computed q = stepOf q
 
-unfoldable pub readAndPosed : List ℕ → Read OrderBook
+unfoldable pub readAndPosed : Moment → List ℕ → Read Problem
 unfolding problemOf theoryOf table padded yesConsequence noConsequence follows hasModel models collect isModel obeysRules someFilling everyFilling
-    everyUnder holds obeys allHold allHoldMasks bit has insert subset disjoint diff readBook fromRules factsFrom many endAt atFact factAt factValues
-    ruleAt ruleValues costAt costValues headerAt headerValues rising opened isCost pair marked variable ofByte yesMask yesBit noMask noBit
-readAndPosed s = readBook s
+    everyUnder holds obeys allHold allHoldMasks bit has insert subset disjoint diff readComputed yesMask yesBit noMask noBit posed readAt rulesInForce inForce
+    isOpen isMoment weekday dayNumber daysOfYears daysOfMonths sumBelow
+readAndPosed moment s = posed moment s
 
 unfoldable pub firstComputed : Problem → ℕ
 unfolding modelAnswer firstModel firstFilling firstUnder comesBefore weight
@@ -67,11 +70,11 @@ pub record OrderRow : Type 0 where
   pub answer : LogAnswer
   pub log : List ℕ
 
-abbrev refuses : List ℕ → ℕ → ℕ → OrderRow
+abbrev pub refuses : List ℕ → ℕ → ℕ → OrderRow
 refuses s number place =
     record { bytes = s; model = Model.Refused number place; consequence = Consequence.Refused number place; answer = Log.Refused number place; log = [] }
 
-abbrev logs : List ℕ → ℕ → LiteralSet → ℕ → ℕ → ℕ → List ℕ → OrderRow
+abbrev pub logs : List ℕ → ℕ → LiteralSet → ℕ → ℕ → ℕ → List ℕ → OrderRow
 logs s m c size steps total bytes =
     record { bytes = s; model = Model.Model m; consequence = Consequence.Forced c; answer = Log.Written size steps total; log = bytes }
 
@@ -110,33 +113,37 @@ fewerOrders =
     (0x53 ∷ 0x54 ∷ 5 ∷ 1 ∷ 3 ∷ 1 ∷ 5 ∷ 0 ∷ 11 ∷ 0x53 ∷ 0x54 ∷ 4 ∷ 2 ∷ 1 ∷ 2 ∷ 1 ∷ 4 ∷ 0 ∷ 11 ∷ 0x4F ∷ 0x4B ∷ 2 ∷ 0 ∷ 0 ∷ 0 ∷ 22 ∷ [])
     ∷ []
 
--- What the meanings say of an order's bytes, with the shortest buffer that serves.
-unfoldable pub meant : List ℕ → OrderRow
-meant s =
+-- The moment of the rows: 17 November 2026, noon.
+abbrev pub noon : Moment
+noon = record { date = date 2026 11 17; minute = 720 }
+
+-- What the meanings say of an order's bytes at a moment, with the shortest buffer that serves.
+unfoldable pub meant : Moment → List ℕ → OrderRow
+meant moment s =
     record {
       bytes = s;
-      model = modelAnswer (readBook s);
-      consequence = consequenceAnswer (readBook s);
-      answer = logAnswer (logOutcome maxLog (readBook s));
-      log = bufferAfter (logOutcome maxLog (readBook s)) [];
+      model = modelAnswer (posed moment s);
+      consequence = consequenceAnswer (posed moment s);
+      answer = logAnswer (logOutcome maxLog (posed moment s));
+      log = bufferAfter (logOutcome maxLog (posed moment s)) [];
     }
 
-pub orders-agree : map (λ (r : OrderRow). meant (r .bytes)) orders ≡ orders
+pub orders-agree : map (λ (r : OrderRow). meant noon (r .bytes)) orders ≡ orders
 unfolding orders meant computed readAndPosed firstComputed order-a order-b order-c order-d order-e order-f order-g order-h order-i order-j consequenceAnswer
     withModel logOutcome logAnswer bufferAfter runFor runOf runFrom withNew logBytes costsWritten okBytes recordsBytes recordBytes listBytes
     literalsOf twoBytes fourBytes byteOf members membersBelow membersFrom
 orders-agree = refl
 
-pub count-orders-agree : map (λ (r : OrderRow). meant (r .bytes)) countOrders ≡ countOrders
+pub count-orders-agree : map (λ (r : OrderRow). meant noon (r .bytes)) countOrders ≡ countOrders
 unfolding countOrders meant readAndPosed firstComputed order-empty-rule order-nine-literals consequenceAnswer withModel logOutcome logAnswer bufferAfter
 count-orders-agree = refl
 
-pub either-orders-agree : map (λ (r : OrderRow). meant (r .bytes)) eitherOrders ≡ eitherOrders
+pub either-orders-agree : map (λ (r : OrderRow). meant noon (r .bytes)) eitherOrders ≡ eitherOrders
 unfolding eitherOrders meant computed readAndPosed firstComputed order-either consequenceAnswer withModel logOutcome logAnswer bufferAfter runFor runOf
     runFrom logBytes costsWritten okBytes recordsBytes fourBytes
 either-orders-agree = refl
 
-pub fewer-orders-agree : map (λ (r : OrderRow). meant (r .bytes)) fewerOrders ≡ fewerOrders
+pub fewer-orders-agree : map (λ (r : OrderRow). meant noon (r .bytes)) fewerOrders ≡ fewerOrders
 unfolding fewerOrders meant computed readAndPosed firstComputed order-fewer-facts order-higher-goal consequenceAnswer withModel logOutcome logAnswer
     bufferAfter runFor runOf runFrom withNew logBytes costsWritten okBytes recordsBytes recordBytes listBytes literalsOf twoBytes fourBytes byteOf members
     membersBelow membersFrom
@@ -167,12 +174,12 @@ steps =
     ∷ from order-i 1 0 (Next.Step (pos 2) (set 1 0) (set 6 0) 2)
     ∷ []
 
-pub steps-agree : map (λ (r : KnownRow). from (r .bytes) (r .yes) (r .no) (stepAnswer (r .yes) (r .no) (readBook (r .bytes)))) steps ≡ steps
+pub steps-agree : map (λ (r : KnownRow). from (r .bytes) (r .yes) (r .no) (stepAnswer (r .yes) (r .no) (posed noon (r .bytes)))) steps ≡ steps
 unfolding steps computed readAndPosed order-c order-d order-g order-h order-i stepAnswer stepFor stepSays between withModel
 steps-agree = refl
 
 -- What is said in the order before E6, of a known set that is not refused.
-unfoldable pub lowerGoalAnswer : ℕ → ℕ → Read OrderBook → StepAnswer
+unfoldable pub lowerGoalAnswer : ℕ → ℕ → Read Problem → StepAnswer
 unfolding withModel
 lowerGoalAnswer on off m = withModel (λ p. stepSays (lowerGoalStep (questionOf p (set on off)))) Next.Refused m
 
@@ -189,11 +196,11 @@ lowerGoalSteps =
     ∷ from order-higher-goal 7 0 (Next.Step (pos 4) (set 3 0) (set 8 0) 11)
     ∷ []
 
-pub fewer-steps-agree : map (λ (r : KnownRow). from (r .bytes) (r .yes) (r .no) (stepAnswer (r .yes) (r .no) (readBook (r .bytes)))) fewerSteps ≡ fewerSteps
+pub fewer-steps-agree : map (λ (r : KnownRow). from (r .bytes) (r .yes) (r .no) (stepAnswer (r .yes) (r .no) (posed noon (r .bytes)))) fewerSteps ≡ fewerSteps
 unfolding fewerSteps computed readAndPosed order-fewer-facts order-higher-goal stepAnswer stepFor stepSays between withModel
 fewer-steps-agree = refl
 
-pub lower-goal-steps-agree : map (λ (r : KnownRow). from (r .bytes) (r .yes) (r .no) (lowerGoalAnswer (r .yes) (r .no) (readBook (r .bytes)))) lowerGoalSteps
+pub lower-goal-steps-agree : map (λ (r : KnownRow). from (r .bytes) (r .yes) (r .no) (lowerGoalAnswer (r .yes) (r .no) (posed noon (r .bytes)))) lowerGoalSteps
     ≡ lowerGoalSteps
 unfolding lowerGoalSteps lowerGoalAnswer lowerGoalStep lowerGoalCandidate lowerGoalFirst computed readAndPosed order-fewer-facts order-higher-goal stepSays withModel
 lower-goal-steps-agree = refl

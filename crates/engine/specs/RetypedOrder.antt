@@ -1,17 +1,17 @@
 -- Book P of document 01 retyped: two books that differ in V, R, the rules and the helpers and have the same screens, shown by computing (E1).
 use mathlib.Core.Path.{_≡_, refl}
 use mathlib.Core.Bool.{true}
-use mathlib.Core.List.{List, [], _∷_}
+use mathlib.Core.List.{List, [], _∷_, map}
 use Prim.Native.Nat.{ℕ}
 use lib.IntN.{pos, negsuc}
 use Rattle.literals.specs.Literal.{Literal}
-use Rattle.records.specs.Format.{OrderBook}
+use Rattle.records.specs.Format.{always, OrderBook}
 use Rattle.book.specs.Orders.{order-c}
 use Rattle.problem.specs.Problem.{problemOf}
 use Rattle.consequence.specs.Meaning.{theoryOf}
 use Rattle.consequence.specs.SameFillings.{fillingsWithin, fillingsAgree}
 use Rattle.consequence.specs.Laws.SameFillings.{fillings-agree}
-use Rattle.engine.specs.Orders.{readAndPosed}
+use Rattle.engine.specs.Orders.{noon, readAndPosed}
 use Rattle.engine.specs.SameScreens.{Retyped}
 
 -- P has the rules (-1, 5), (2, -5) and (-2, -3, 4), where 5 is a helper. Here the helper is left out, the rules come in another order, (-1, 2) is typed
@@ -30,7 +30,7 @@ likeP variables count rules =
     record {
       header = record { variables = variables; choices = 4; rules = count };
       costs = record { ofYes = 5; ofNo = 9 } ∷ record { ofYes = 2; ofNo = 3 } ∷ record { ofYes = 4; ofNo = 1 } ∷ record { ofYes = 7; ofNo = 6 } ∷ [];
-      rules = rules;
+      rules = map always rules;
       facts = pos 1 ∷ pos 3 ∷ [];
     }
 
@@ -42,19 +42,22 @@ book-retyped =
     likeP 4 4 ((negsuc 1 ∷ negsuc 2 ∷ pos 4 ∷ []) ∷ (negsuc 0 ∷ pos 2 ∷ []) ∷ (negsuc 0 ∷ pos 2 ∷ pos 4 ∷ []) ∷ (negsuc 0 ∷ pos 2 ∷ []) ∷ [])
 
 -- Their fillings of the choices, computed.
-fillings-computed : fillingsAgree (theoryOf (problemOf book-p)) (theoryOf (problemOf book-retyped)) ≡ true
+fillings-computed : fillingsAgree (theoryOf (problemOf noon book-p)) (theoryOf (problemOf noon book-retyped)) ≡ true
 unfolding readAndPosed fillingsAgree fillingsWithin
 fillings-computed = refl
 
-pub p-same-screens : Retyped order-c p-retyped
+pub p-same-screens : Retyped noon order-c p-retyped
 unfolding readAndPosed order-c p-retyped
 p-same-screens =
     record {
-      book = book-p;
-      end = 57;
-      accepted = refl;
-      other = book-retyped;
-      other-end = 63;
-      other-accepted = refl;
-      same = record { same-choices = refl; same-costs = refl; same-facts = refl; same-fillings = fillings-agree fillings-computed };
+      possible = refl;
+      books = record {
+        book = book-p;
+        end = 57;
+        accepted = refl;
+        other = book-retyped;
+        other-end = 63;
+        other-accepted = refl;
+        same = record { same-choices = refl; same-costs = refl; same-facts = refl; same-fillings = fillings-agree fillings-computed };
+      };
     }

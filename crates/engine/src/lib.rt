@@ -1,4 +1,5 @@
-// The public calls. Each is handed the book's bytes and reads them first; none asks anything of its caller.
+// The public calls. Each is handed the book's bytes and reads them first, after it has looked at the moment; none asks anything of
+// its caller.
 ghost use mathlib.Core.Path.{_≡_};
 ghost use Prim.Native.Nat.{_≤_};
 ghost use lib.ListN.{length};
@@ -7,7 +8,7 @@ ghost use Rattle.records.specs.Format.{readBook};
 ghost use Rattle.book.specs.Answer.{bookAnswer, tableAnswer};
 ghost use Rattle.problem.specs.Masked.{Searchable};
 ghost use Rattle.log.specs.Meaning.{runOf, logOf};
-ghost use Rattle.engine.specs.Calls.{ModelCall, ConsequenceCall, StepCall, LogCall, logged, LoggedAs};
+ghost use Rattle.engine.specs.Calls.{readAt, ModelCall, ConsequenceCall, StepCall, LogCall, logged, LoggedAs};
 ghost use Rattle.engine.specs.Contracts.{FoundModel, FoundForced, Loggable, LogReady, logIn, logQuestion};
 ghost use Rattle.engine.specs.Dimacs.{DimacsCall};
 
@@ -16,6 +17,7 @@ mod steps;
 use book::Book;
 use book::Reading;
 use consequence::Consequence;
+use dates::Moment;
 use dimacs::Imported;
 use literals::LiteralSet;
 use problem::MaskedProblem;
@@ -77,18 +79,29 @@ pub fn read_dimacs(text: &[u8], buffer: &mut [u8]) -> Imported
     dimacs::import(text, buffer)
 }
 
-// The first model of the book: variable 1 is weightiest, and no comes before yes.
-// Ruled out: refusal 9 for every book; any model that the search finds first.
-pub fn model(s: &[u8]) -> ModelAnswer
-    ensures { λ r. ⌜ ModelCall (now (s .entry)) r ⌝ }
+// The book at a moment: one that cannot be is refused before the book is read.
+fn read_at(s: &[u8], moment: Moment) -> Reading
+    ensures { λ r. ⌜ r ≡ bookAnswer (readAt moment (now (s .entry))) ⌝ }
 {
-    let reading = book::read(s);
+    if dates::is_moment(moment) {
+        book::read(s)
+    } else {
+        book::refuse(14, 0)
+    }
+}
+
+// The first model of the book's rules in force: variable 1 is weightiest, and no comes before yes.
+// Ruled out: refusal 9 for every book; any model that the search finds first.
+pub fn model(s: &[u8], moment: Moment) -> ModelAnswer
+    ensures { λ r. ⌜ ModelCall (now (s .entry)) moment r ⌝ }
+{
+    let reading = read_at(s, moment);
     let verdict = reading.verdict;
     match verdict {
         book::Verdict::Refused { number, place } => ModelAnswer::Refused { number, place },
         book::Verdict::Accepted => {
             let b = reading.book;
-            search_model(problem::of_book(b))
+            search_model(problem::of_book(b, moment))
         }
     }
 }
@@ -111,18 +124,18 @@ fn search_model(p: MaskedProblem) -> ModelAnswer
     }
 }
 
-// The consequence of the book: demand 2, and E3's models.
+// The consequence of the book's rules in force: demand 2, and E3's models.
 // Ruled out: a fixed consequence; a consequence with a helper in it; what is kept one model before the last.
-pub fn consequence(s: &[u8]) -> ConsequenceAnswer
-    ensures { λ r. ⌜ ConsequenceCall (now (s .entry)) r ⌝ }
+pub fn consequence(s: &[u8], moment: Moment) -> ConsequenceAnswer
+    ensures { λ r. ⌜ ConsequenceCall (now (s .entry)) moment r ⌝ }
 {
-    let reading = book::read(s);
+    let reading = read_at(s, moment);
     let verdict = reading.verdict;
     match verdict {
         book::Verdict::Refused { number, place } => ConsequenceAnswer::Refused { number, place },
         book::Verdict::Accepted => {
             let b = reading.book;
-            propagate(problem::of_book(b))
+            propagate(problem::of_book(b, moment))
         }
     }
 }
@@ -144,10 +157,10 @@ fn propagate(p: MaskedProblem) -> ConsequenceAnswer
 // The next step from a known set: the variables known to be yes, and those known to be no.
 // Ruled out: a step that is a contradiction but not the cheapest; of two reasons of equal cost the one with more facts; "nothing
 // left" while a choice of the consequence is unknown.
-pub fn next_step(s: &[u8], known_yes: u64, known_no: u64) -> StepAnswer
-    ensures { λ r. ⌜ StepCall (now (s .entry)) «known_yes» «known_no» r ⌝ }
+pub fn next_step(s: &[u8], moment: Moment, known_yes: u64, known_no: u64) -> StepAnswer
+    ensures { λ r. ⌜ StepCall (now (s .entry)) moment «known_yes» «known_no» r ⌝ }
 {
-    let reading = book::read(s);
+    let reading = read_at(s, moment);
     let verdict = reading.verdict;
     match verdict {
         book::Verdict::Refused { number, place } => StepAnswer::Refused { number, place },
@@ -158,17 +171,17 @@ pub fn next_step(s: &[u8], known_yes: u64, known_no: u64) -> StepAnswer
                 yes: known_yes,
                 no: known_no,
             };
-            steps::step_of(problem::of_book(b), costs, known)
+            steps::step_of(problem::of_book(b, moment), costs, known)
         }
     }
 }
 
-// The log of the book into a lent buffer: demand 3.
+// The log of the book's rules in force into a lent buffer: demand 3.
 // Ruled out: OK with 0 steps for every book; a first step with all given facts as reasons and everything as new, the rest for show.
-pub fn log(s: &[u8], buffer: &mut [u8]) -> LogAnswer
-    ensures { λ r. ⌜ LogCall (now (s .entry)) (now (buffer .entry)) (now (buffer .exit)) r ⌝ }
+pub fn log(s: &[u8], moment: Moment, buffer: &mut [u8]) -> LogAnswer
+    ensures { λ r. ⌜ LogCall (now (s .entry)) moment (now (buffer .entry)) (now (buffer .exit)) r ⌝ }
 {
-    let reading = book::read(s);
+    let reading = read_at(s, moment);
     let verdict = reading.verdict;
     match verdict {
         book::Verdict::Refused { number, place } => LogAnswer::Refused { number, place },
@@ -181,7 +194,7 @@ pub fn log(s: &[u8], buffer: &mut [u8]) -> LogAnswer
             }
             let costs = book::read_costs(s);
             let b = reading.book;
-            log_of(problem::of_book(b), costs, buffer)
+            log_of(problem::of_book(b, moment), costs, buffer)
         }
     }
 }

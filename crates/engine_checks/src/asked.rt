@@ -4,6 +4,7 @@ use brute_force::fillings::Literals;
 use brute_force::steps::Taken;
 use engine::StepAnswer;
 use literals::LiteralSet;
+use samples::windows::Moment;
 
 // What the engine says: the refusal, or number 0 and the step. The step is not found where nothing is left.
 pub struct Said {
@@ -71,9 +72,9 @@ fn none(number: u8, place: usize) -> Said {
     }
 }
 
-// What the engine says from this known set.
-pub fn answer(s: &[u8], known: Literals) -> Said {
-    match engine::next_step(s, known.yes, known.no) {
+// What the engine says at this moment from this known set.
+pub fn answer(s: &[u8], m: Moment, known: Literals) -> Said {
+    match engine::next_step(s, readings::moment_of(m), known.yes, known.no) {
         StepAnswer::Step {
             goal,
             reasons,
@@ -109,16 +110,16 @@ pub fn same(a: Said, b: Said) -> bool {
 }
 
 // Whether the engine gives this step from this known set, or that nothing is left.
-pub fn step_agrees(s: &[u8], known: Literals, due: Taken) -> bool {
+pub fn step_agrees(s: &[u8], m: Moment, known: Literals, due: Taken) -> bool {
     let accepted = Said {
         number: 0,
         place: 0,
         step: due,
     };
-    same(answer(s, known), accepted)
+    same(answer(s, m, known), accepted)
 }
 
 // Whether the engine refuses to step from this known set, with this number and place.
-pub fn step_refused(s: &[u8], known: Literals, due: u8, at: usize) -> bool {
-    same(answer(s, known), none(due, at))
+pub fn step_refused(s: &[u8], m: Moment, known: Literals, due: u8, at: usize) -> bool {
+    same(answer(s, m, known), none(due, at))
 }

@@ -3,6 +3,7 @@ use brute_force::logs::Log;
 use engine::LogAnswer;
 use samples::build;
 use samples::limits;
+use samples::windows::Moment;
 
 // What the engine answered to a call for the log, number 0 where it wrote one, and the room in which its buffer lay.
 struct Answered {
@@ -25,10 +26,10 @@ impl Answered {
 }
 
 // The log asked for with a buffer of `len` bytes, or of all the room, which holds this byte everywhere.
-fn written(s: &[u8], len: usize, before: u8) -> Answered {
+fn written(s: &[u8], m: Moment, len: usize, before: u8) -> Answered {
     let mut room = [before; ROOM];
     let end = build::fitting(&room, len);
-    match engine::log(s, &mut room[0..end]) {
+    match engine::log(s, readings::moment_of(m), &mut room[0..end]) {
         LogAnswer::Written { size, steps, total } => Answered {
             room,
             number: 0,
@@ -80,8 +81,8 @@ fn same_numbers(w: Answered, due: Log) -> bool {
 }
 
 // Whether the engine writes this log into a buffer of `len` bytes and leaves the rest of the room alone.
-pub fn log_agrees(s: &[u8], len: usize, due: Log) -> bool {
-    let w = written(s, len, Answered::BEFORE);
+pub fn log_agrees(s: &[u8], m: Moment, len: usize, due: Log) -> bool {
+    let w = written(s, m, len, Answered::BEFORE);
     if w.number != 0 {
         return false;
     }
@@ -95,8 +96,8 @@ pub fn log_agrees(s: &[u8], len: usize, due: Log) -> bool {
 }
 
 // Whether the engine refuses to write a log, with this number and place, and leaves all of the room alone.
-pub fn log_refused(s: &[u8], len: usize, due: u8, at: usize) -> bool {
-    let w = written(s, len, Answered::BEFORE);
+pub fn log_refused(s: &[u8], m: Moment, len: usize, due: u8, at: usize) -> bool {
+    let w = written(s, m, len, Answered::BEFORE);
     if w.number != due {
         return false;
     }
@@ -119,15 +120,15 @@ fn same_answer(a: Answered, b: Answered) -> bool {
 }
 
 // The steps of a book's log.
-pub fn steps(s: &[u8]) -> u8 {
-    written(s, limits::LOG, Answered::BEFORE).steps
+pub fn steps(s: &[u8], m: Moment) -> u8 {
+    written(s, m, limits::LOG, Answered::BEFORE).steps
 }
 
-// Whether two books have the same log, or the same refusal, written into buffers of different lengths that held different
+// Whether two books have the same log at a moment, or the same refusal, written into buffers of different lengths that held different
 // bytes, which are still there beyond the log.
-pub fn same_log(s: &[u8], other: &[u8]) -> bool {
-    let a = written(s, limits::LOG, Answered::BEFORE);
-    let b = written(other, ROOM, Answered::OTHER_BEFORE);
+pub fn same_log(s: &[u8], other: &[u8], m: Moment) -> bool {
+    let a = written(s, m, limits::LOG, Answered::BEFORE);
+    let b = written(other, m, ROOM, Answered::OTHER_BEFORE);
     if !same_answer(a, b) {
         return false;
     }

@@ -10,6 +10,8 @@ use samples::build;
 use samples::build::Draft;
 use samples::reckon;
 use samples::reckon::Reckoned;
+use samples::windows;
+use samples::windows::Moment;
 
 // What is due of a book, or said of its consequence: the refusal, or number 0 and what follows. The first model is due only,
 // and held against what `engine::model` says.
@@ -29,9 +31,9 @@ fn same_refusal(number: u8, place: usize, due: Due) -> bool {
 }
 
 // Whether `engine::model` gives the first model, or the refusal that is due.
-pub fn model_agrees(s: &[u8], due: Due) -> bool {
-    match engine::model(s) {
-        ModelAnswer::Model(m) => due.number == 0 && m == due.model,
+pub fn model_agrees(s: &[u8], m: Moment, due: Due) -> bool {
+    match engine::model(s, readings::moment_of(m)) {
+        ModelAnswer::Model(found) => due.number == 0 && found == due.model,
         ModelAnswer::Refused { number, place } => same_refusal(number, place, due),
     }
 }
@@ -47,8 +49,8 @@ pub fn refusal(number: u8, place: usize) -> Due {
 }
 
 // What `engine::consequence` says.
-pub fn consequence_said(s: &[u8]) -> Due {
-    match engine::consequence(s) {
+pub fn consequence_said(s: &[u8], m: Moment) -> Due {
+    match engine::consequence(s, readings::moment_of(m)) {
         ConsequenceAnswer::Forced(set) => Due {
             number: 0,
             place: 0,
@@ -97,24 +99,17 @@ fn seen(t: Tally, b: Reckoned, due: Due) -> Tally {
     tally::seen(t, tally::WITH_MORE, more)
 }
 
-// The answers to a book.
-pub fn asked(t: Tally, s: &[u8], b: Reckoned, due: Due) -> Tally {
+// The answers to a book at a moment: what its bytes are reckoned to be, and what is due of the rules then in force.
+pub fn asked(t: Tally, s: &[u8], m: Moment, b: Reckoned, due: Due) -> Tally {
     let read = readings::agree(engine::read_book(s), engine::read_costs(s), b);
     let t = tally::noted(t, tally::READING, read);
-    let t = tally::noted(t, tally::MODEL, model_agrees(s, due));
-    let forced = same_consequence(consequence_said(s), due);
+    let t = tally::noted(t, tally::MODEL, model_agrees(s, m, due));
+    let forced = same_consequence(consequence_said(s, m), due);
     tally::noted(t, tally::CONSEQUENCE, forced)
 }
 
-// One more book.
-pub fn count(t: Tally, d: Draft) -> Tally {
-    let bytes = d.bytes;
-    let s = build::part(&bytes, d.len);
-    let b = reckon::reckon(s);
-    if b.number != 0 {
-        let refused = refusal(b.number, b.place);
-        return asked(tally::seen(t, tally::BAD_BOOKS, true), s, b, refused);
-    }
+// One more good book, at a moment at which its rules in force are all the rules of another one, `b`.
+pub fn count_at(t: Tally, s: &[u8], m: Moment, read: Reckoned, b: Reckoned) -> Tally {
     let obeying = fillings::obeying(b);
     if !obeying.whole {
         return tally::seen(t, tally::LEFT_OUT, true);
@@ -122,7 +117,20 @@ pub fn count(t: Tally, d: Draft) -> Tally {
     let room = obeying.room;
     let all = fillings::part(&room, obeying.count);
     let due = due_of(b, all);
-    let t = asked(seen(t, b, due), s, b, due);
-    let t = models_found::asked(t, s, models_found::bounds_of(due, b.choices));
+    let t = asked(seen(t, b, due), s, m, read, due);
+    let t = models_found::asked(t, s, m, models_found::bounds_of(due, b.choices));
     models_found::reckoned(t, all, b, due)
+}
+
+// One more book without windows, at any moment.
+pub fn count(t: Tally, d: Draft) -> Tally {
+    let bytes = d.bytes;
+    let s = build::part(&bytes, d.len);
+    let b = reckon::reckon(s);
+    let m = windows::drawn_moment(d.seed);
+    if b.number != 0 {
+        let refused = refusal(b.number, b.place);
+        return asked(tally::seen(t, tally::BAD_BOOKS, true), s, m, b, refused);
+    }
+    count_at(t, s, m, b, b)
 }

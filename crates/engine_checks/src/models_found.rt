@@ -7,6 +7,7 @@ use brute_force::algorithm2;
 use brute_force::fillings;
 use consequence::Consequence;
 use samples::reckon::Reckoned;
+use samples::windows::Moment;
 
 // The fewest models and the most.
 pub struct Bounds {
@@ -14,8 +15,12 @@ pub struct Bounds {
     pub most: u32,
 }
 
-// How many models the engine finds for a book: 0 where it is refused or has none.
-pub fn models_found(s: &[u8]) -> u32 {
+// How many models the engine finds for a book at a moment: 0 where one of them is refused or there is none.
+pub fn models_found(s: &[u8], m: Moment) -> u32 {
+    let moment = readings::moment_of(m);
+    if !dates::is_moment(moment) {
+        return 0;
+    }
     let reading = book::read(s);
     let verdict = reading.verdict;
     match verdict {
@@ -25,7 +30,7 @@ pub fn models_found(s: &[u8]) -> u32 {
         } => 0,
         book::Verdict::Accepted => {
             let b = reading.book;
-            match consequence::of_problem(problem::of_book(b)) {
+            match consequence::of_problem(problem::of_book(b, moment)) {
                 Consequence::Forced { kept: _, models } => models,
                 Consequence::NoModel => 0,
             }
@@ -59,8 +64,8 @@ pub fn bounded(t: Tally, models: u32, due: Bounds) -> Tally {
 }
 
 // The engine's models for one more good book. (For one that is refused no model is looked for.)
-pub fn asked(t: Tally, s: &[u8], due: Bounds) -> Tally {
-    let models = models_found(s);
+pub fn asked(t: Tally, s: &[u8], m: Moment, due: Bounds) -> Tally {
+    let models = models_found(s, m);
     let t = tally::added(t, tally::FOUND_IN_ALL, models);
     let t = tally::added(t, tally::MOST_IN_ALL, due.most);
     bounded(t, models, due)

@@ -1,6 +1,7 @@
 // Books walked from the facts to the consequence: the first model, each step, steps from other known sets, and the whole log.
 use crate::asked;
 use crate::compare;
+use crate::compare::Due;
 use crate::logged;
 use crate::tally;
 use crate::tally::Tally;
@@ -16,6 +17,8 @@ use samples::limits;
 use samples::random;
 use samples::reckon;
 use samples::reckon::Reckoned;
+use samples::windows;
+use samples::windows::Moment;
 
 // What is reckoned of a book once; the choices as a number and as a mask.
 pub struct Case {
@@ -46,8 +49,8 @@ pub fn due(all: &[u64], case: Case, known: Literals) -> Taken {
 }
 
 // One step more on the way: the engine's held against the reckoned one.
-pub fn one_step(t: Tally, s: &[u8], known: Literals, due: Taken) -> Tally {
-    let t = tally::noted(t, tally::ON_THE_WAY, asked::step_agrees(s, known, due));
+pub fn one_step(t: Tally, s: &[u8], m: Moment, known: Literals, due: Taken) -> Tally {
+    let t = tally::noted(t, tally::ON_THE_WAY, asked::step_agrees(s, m, known, due));
     let t = tally::seen(t, tally::TIED, due.tied);
     tally::seen(t, tally::CHANGED_STEPS, due.changed)
 }
@@ -65,7 +68,7 @@ pub struct Way {
 }
 
 // One known set on the way.
-fn onward(way: Way, s: &[u8], all: &[u64], case: Case) -> Way {
+fn onward(way: Way, s: &[u8], m: Moment, all: &[u64], case: Case) -> Way {
     let log = way.log;
     if log.ended {
         return way;
@@ -74,13 +77,13 @@ fn onward(way: Way, s: &[u8], all: &[u64], case: Case) -> Way {
     let step = due(all, case, known);
     let t = way.tally;
     Way {
-        tally: one_step(t, s, known, step),
+        tally: one_step(t, s, m, known, step),
         log: logs::onward(log, step),
     }
 }
 
 // All known sets on the way.
-fn along(t: Tally, s: &[u8], all: &[u64], case: Case) -> Way {
+fn along(t: Tally, s: &[u8], m: Moment, all: &[u64], case: Case) -> Way {
     let facts = case.facts;
     let mut way = Way {
         tally: t,
@@ -88,7 +91,7 @@ fn along(t: Tally, s: &[u8], all: &[u64], case: Case) -> Way {
     };
     let records = limits::RECORDS;
     for i in 0..records {
-        way = onward(way, s, all, case);
+        way = onward(way, s, m, all, case);
     }
     way
 }
@@ -99,20 +102,20 @@ pub fn known_set(case: Case, mask: u64) -> Literals {
 }
 
 // A step from one known set.
-fn from_one(t: Tally, s: &[u8], all: &[u64], case: Case, mask: u64) -> Tally {
+fn from_one(t: Tally, s: &[u8], m: Moment, all: &[u64], case: Case, mask: u64) -> Tally {
     let known = known_set(case, mask);
-    let agrees = asked::step_agrees(s, known, due(all, case, known));
+    let agrees = asked::step_agrees(s, m, known, due(all, case, known));
     tally::noted(t, tally::FROM_ANY, agrees)
 }
 
 // Steps from some known sets.
-fn from_any(t: Tally, s: &[u8], all: &[u64], case: Case, seed: u64) -> Tally {
+fn from_any(t: Tally, s: &[u8], m: Moment, all: &[u64], case: Case, seed: u64) -> Tally {
     let mut after = t;
     let mut mask = seed;
     let sets: u8 = 4;
     for i in 0..sets {
         mask = random::next(mask);
-        after = from_one(after, s, all, case, mask);
+        after = from_one(after, s, m, all, case, mask);
     }
     after
 }
@@ -141,19 +144,19 @@ fn group_of(case: Case, known: Literals) -> usize {
 }
 
 // A known set that may have been spoilt: 10 at 0 where it was.
-fn spoilt(t: Tally, s: &[u8], case: Case, known: Literals) -> Tally {
+fn spoilt(t: Tally, s: &[u8], m: Moment, case: Case, known: Literals) -> Tally {
     if is_proper(case, known) {
         return t;
     }
     tally::noted(
         t,
         group_of(case, known),
-        asked::step_refused(s, known, 10, 0),
+        asked::step_refused(s, m, known, 10, 0),
     )
 }
 
 // A known set with one variable yes as well, no as well, and without it.
-fn spoilt_at(t: Tally, s: &[u8], case: Case, known: Literals, bit: u64) -> Tally {
+fn spoilt_at(t: Tally, s: &[u8], m: Moment, case: Case, known: Literals, bit: u64) -> Tally {
     let with_yes = Literals {
         yes: known.yes | bit,
         no: known.no,
@@ -162,42 +165,40 @@ fn spoilt_at(t: Tally, s: &[u8], case: Case, known: Literals, bit: u64) -> Tally
         yes: known.yes,
         no: known.no | bit,
     };
-    let t = spoilt(spoilt(t, s, case, with_yes), s, case, with_no);
-    spoilt(t, s, case, fillings::within(known, !bit))
+    let t = spoilt(spoilt(t, s, m, case, with_yes), s, m, case, with_no);
+    spoilt(t, s, m, case, fillings::within(known, !bit))
 }
 
 // A known set spoilt at each choice, at the two variables after them and at the last bit.
-pub fn spoilt_sets(t: Tally, s: &[u8], case: Case, seed: u64) -> Tally {
+pub fn spoilt_sets(t: Tally, s: &[u8], m: Moment, case: Case, seed: u64) -> Tally {
     let known = known_set(case, seed);
-    let mut after = spoilt_at(t, s, case, known, fillings::power(63));
+    let mut after = spoilt_at(t, s, m, case, known, fillings::power(63));
     let end = std::num::wrapping_add_usize(case.count, 2);
     for v in 0..end {
-        after = spoilt_at(after, s, case, known, fillings::power(v));
+        after = spoilt_at(after, s, m, case, known, fillings::power(v));
     }
     after
 }
 
-// A book without a model: 9 at 0, also where the known set is wrong.
-pub fn without_model(t: Tally, s: &[u8], facts: Literals) -> Tally {
-    let t = tally::noted(t, tally::WITHOUT_MODEL, asked::step_refused(s, facts, 9, 0));
+// A step that is refused, from this known set and from a wrong one.
+fn refused_from(t: Tally, group: usize, s: &[u8], m: Moment, known: Literals, due: Due) -> Tally {
     let wrong = Literals { yes: 1, no: 1 };
-    tally::noted(t, tally::WITHOUT_MODEL, asked::step_refused(s, wrong, 9, 0))
+    let first = asked::step_refused(s, m, known, due.number, due.place);
+    let second = asked::step_refused(s, m, wrong, due.number, due.place);
+    tally::noted(tally::noted(t, group, first), group, second)
 }
 
-// A book that is refused: the reader's number and place, also where the known set is wrong.
-fn refused(t: Tally, s: &[u8], number: u8, place: usize) -> Tally {
+// A book without a model: 9 at 0, also where the known set is wrong.
+pub fn without_model(t: Tally, s: &[u8], m: Moment, facts: Literals) -> Tally {
+    refused_from(t, tally::WITHOUT_MODEL, s, m, facts, compare::refusal(9, 0))
+}
+
+// A book or a moment that is refused: no model, no step, also where the known set is wrong, and no log.
+pub fn refused(t: Tally, s: &[u8], m: Moment, due: Due) -> Tally {
     let nothing = Literals { yes: 0, no: 0 };
-    let t = tally::noted(
-        t,
-        tally::REFUSED,
-        asked::step_refused(s, nothing, number, place),
-    );
-    let wrong = Literals { yes: 1, no: 1 };
-    tally::noted(
-        t,
-        tally::REFUSED,
-        asked::step_refused(s, wrong, number, place),
-    )
+    let t = tally::noted(t, tally::MODEL, compare::model_agrees(s, m, due));
+    let t = refused_from(t, tally::REFUSED, s, m, nothing, due);
+    logged::refused(t, s, m, due)
 }
 
 // The place of a log of so many steps among the kinds.
@@ -209,30 +210,25 @@ pub fn place_of(steps: u64) -> usize {
     }
 }
 
-// A good book and the fillings that obey its rules.
-fn good(t: Tally, s: &[u8], b: Reckoned, all: &[u64], seed: u64) -> Tally {
+// A good book and the fillings that obey its rules in force.
+fn good(t: Tally, s: &[u8], m: Moment, b: Reckoned, all: &[u64], seed: u64) -> Tally {
     let case = case_of(all, b);
     if !fillings::possible(all, case.facts) {
         let t = tally::seen(t, tally::EMPTY_RULE, reckon::has_empty_rule(b));
-        return logged::without_model(without_model(t, s, case.facts), s);
+        return logged::without_model(without_model(t, s, m, case.facts), s, m);
     }
-    let way = along(t, s, all, case);
+    let way = along(t, s, m, all, case);
     let log = way.log;
     let t = seen_changed(t, way.tally);
     let t = tally::seen(t, place_of(log.steps), true);
-    let t = from_any(t, s, all, case, seed);
-    logged::whole(spoilt_sets(t, s, case, random::next(seed)), s, log)
+    let t = from_any(t, s, m, all, case, seed);
+    logged::whole(spoilt_sets(t, s, m, case, random::next(seed)), s, m, log)
 }
 
-// One more book.
-pub fn count(t: Tally, d: Draft) -> Tally {
-    let bytes = d.bytes;
-    let s = build::part(&bytes, d.len);
-    let b = reckon::reckon(s);
+// One more book, at a moment at which its rules in force are all the rules of another one, as which it is reckoned.
+pub fn count_at(t: Tally, s: &[u8], m: Moment, b: Reckoned, seed: u64) -> Tally {
     if b.number != 0 {
-        let due = compare::refusal(b.number, b.place);
-        let t = tally::noted(t, tally::MODEL, compare::model_agrees(s, due));
-        return logged::refused(refused(t, s, b.number, b.place), s, b.number, b.place);
+        return refused(t, s, m, compare::refusal(b.number, b.place));
     }
     let obeying = fillings::obeying(b);
     if !obeying.whole {
@@ -240,6 +236,19 @@ pub fn count(t: Tally, d: Draft) -> Tally {
     }
     let room = obeying.room;
     let all = fillings::part(&room, obeying.count);
-    let model = compare::model_agrees(s, compare::due_of(b, all));
-    good(tally::noted(t, tally::MODEL, model), s, b, all, d.seed)
+    let model = compare::model_agrees(s, m, compare::due_of(b, all));
+    good(tally::noted(t, tally::MODEL, model), s, m, b, all, seed)
+}
+
+// One more book without windows, at any moment.
+pub fn count(t: Tally, d: Draft) -> Tally {
+    let bytes = d.bytes;
+    let s = build::part(&bytes, d.len);
+    count_at(
+        t,
+        s,
+        windows::drawn_moment(d.seed),
+        reckon::reckon(s),
+        d.seed,
+    )
 }

@@ -4,9 +4,12 @@ mod cores;
 mod covers;
 mod drawn;
 pub mod made;
+pub mod moments;
+pub mod seasons;
 mod several;
 mod shapes;
 mod ties;
+pub mod windowed;
 
 use made::Shape;
 use samples::build::Draft;

@@ -242,10 +242,14 @@ pub fn ends(t: Tally) -> Tally {
     let t = compare::expect(t, p, 0, 0);
     let t = compare::expect(t, edits::cut(p, 56), 1, 55);
     let t = compare::expect(t, build::put(p, b'E'), 7, 57);
-    let longest = build::longest();
+    let longest = build::longest(false);
     let t = compare::expect(t, longest, 0, 0);
     let t = compare::expect(t, edits::cut(longest, 1734), 1, 1733);
-    compare::expect(t, build::put(longest, 0), 7, 1735)
+    let t = compare::expect(t, build::put(longest, 0), 7, 1735);
+    let windowed = build::longest(true);
+    let t = compare::expect(t, windowed, 0, 0);
+    let t = compare::expect(t, edits::cut(windowed, 3654), 1, 3653);
+    compare::expect(t, build::put(windowed, 0), 7, 3655)
 }
 
 // Every one of them.

@@ -6,13 +6,14 @@ use samples::reckon::Reckoned;
 
 // Of a group: how many books were tried, at how many reader and reckoning differed, at how many the reader was not as
 // expected. Of all groups: how many books were reckoned good (entry 0) or refused with each number, and how many hold a rule
-// of no literals.
+// of no literals, or a window.
 pub struct Tally {
     pub tried: u64,
     pub differ: u64,
     pub unexpected: u64,
-    pub numbers: [u64; 8],
+    pub numbers: [u64; 16],
     pub empty_rules: u64,
+    pub windows: u64,
 }
 
 pub fn none() -> Tally {
@@ -20,8 +21,9 @@ pub fn none() -> Tally {
         tried: 0,
         differ: 0,
         unexpected: 0,
-        numbers: [0; 8],
+        numbers: [0; 16],
         empty_rules: 0,
+        windows: 0,
     }
 }
 
@@ -47,7 +49,7 @@ fn answers(s: &[u8], number: u8, place: usize) -> bool {
 
 // One more book that was reckoned, good or refused with a number.
 fn noted(mut t: Tally, number: u8) -> Tally {
-    let i = (number % 8) as usize;
+    let i = (number % 16) as usize;
     let before = t.numbers[i];
     t.numbers[i] = std::num::wrapping_add_u64(before, 1);
     t.tried = std::num::wrapping_add_u64(t.tried, 1);
@@ -62,6 +64,9 @@ pub fn count(t: Tally, d: Draft) -> Tally {
     let mut after = noted(t, due.number);
     if reckon::has_empty_rule(due) {
         after.empty_rules = std::num::wrapping_add_u64(after.empty_rules, 1);
+    }
+    if reckon::has_window(due) {
+        after.windows = std::num::wrapping_add_u64(after.windows, 1);
     }
     if !agrees(s, due) {
         after.differ = std::num::wrapping_add_u64(after.differ, 1);

@@ -2,6 +2,8 @@
 use crate::compare;
 use crate::compare::Tally;
 use made_books::made;
+use made_books::seasons::Season;
+use made_books::windowed;
 use samples::build;
 use samples::build::Draft;
 use samples::edits;
@@ -76,12 +78,22 @@ pub fn extra_bytes(t: Tally, d: Draft) -> Tally {
     after
 }
 
+// A good book of up to `most` variables, made up from a seed, with windows of any kind or without.
+fn good_book(seed: u64, most: u8, with_windows: bool) -> Draft {
+    let plain = made::any_book(seed, most);
+    if with_windows {
+        windowed::typed(windowed::of_book(plain, Season::Any))
+    } else {
+        plain
+    }
+}
+
 // Good books made up: each is expected to be read.
-pub fn made_up(t: Tally, books: u32, most: u8) -> Tally {
+pub fn made_up(t: Tally, books: u32, most: u8, with_windows: bool) -> Tally {
     let mut after = t;
     let mut seed = 88172645463325252;
     for i in 0..books {
-        let d = made::any_book(seed, most);
+        let d = good_book(seed, most, with_windows);
         after = compare::expect(after, d, 0, 0);
         seed = d.seed;
     }
@@ -89,11 +101,11 @@ pub fn made_up(t: Tally, books: u32, most: u8) -> Tally {
 }
 
 // Books made up and edited.
-pub fn edited(t: Tally, books: u32, most: u8) -> Tally {
+pub fn edited(t: Tally, books: u32, most: u8, with_windows: bool) -> Tally {
     let mut after = t;
     let mut seed = 362436069362436069;
     for i in 0..books {
-        let d = edits::much_edited(made::any_book(seed, most));
+        let d = edits::much_edited(good_book(seed, most, with_windows));
         after = compare::count(after, d);
         seed = random::next(d.seed);
     }

@@ -17,6 +17,8 @@ use samples::build::Draft;
 use samples::limits;
 use samples::order;
 use samples::random;
+use samples::windows;
+use samples::windows::Moment;
 
 // How many fillings there are, how many satisfy the file, at how many file and book differ; the first that satisfies it; and
 // the variables that are yes, and no, in all that do.
@@ -76,23 +78,23 @@ fn is_nine(f: Found, number: u8, place: usize) -> bool {
     f.models == 0 && number == 9 && place == 0
 }
 
-fn model_agrees(f: Found, book: &[u8]) -> bool {
-    match engine::model(book) {
-        ModelAnswer::Model(m) => f.models != 0 && m == f.first,
+fn model_agrees(f: Found, book: &[u8], m: Moment) -> bool {
+    match engine::model(book, readings::moment_of(m)) {
+        ModelAnswer::Model(found) => f.models != 0 && found == f.first,
         ModelAnswer::Refused { number, place } => is_nine(f, number, place),
     }
 }
 
-fn consequence_agrees(f: Found, book: &[u8]) -> bool {
-    match engine::consequence(book) {
+fn consequence_agrees(f: Found, book: &[u8], m: Moment) -> bool {
+    match engine::consequence(book, readings::moment_of(m)) {
         ConsequenceAnswer::Forced(set) => f.models != 0 && set.yes == f.yes && set.no == f.no,
         ConsequenceAnswer::Refused { number, place } => is_nine(f, number, place),
     }
 }
 
-fn log_agrees(f: Found, book: &[u8]) -> bool {
+fn log_agrees(f: Found, book: &[u8], m: Moment) -> bool {
     let mut buffer = [0; limits::LOG];
-    match engine::log(book, &mut buffer[0..limits::LOG]) {
+    match engine::log(book, readings::moment_of(m), &mut buffer[0..limits::LOG]) {
         LogAnswer::Written {
             size: _,
             steps: _,
@@ -102,14 +104,14 @@ fn log_agrees(f: Found, book: &[u8]) -> bool {
     }
 }
 
-// What the engine made of a file that is of the form.
-fn compared(t: Tally, r: Reckoned, book: &[u8]) -> Tally {
+// What the engine made of a file that is of the form, and what it answers to it at a moment.
+fn compared(t: Tally, r: Reckoned, book: &[u8], m: Moment) -> Tally {
     let f = all_fillings(r, book);
     let t = tally::noted_many(t, tally::FILLINGS, f.all, f.differ);
     let t = tally::seen_models(t, f.models != 0);
-    let t = tally::noted(t, tally::MODEL, model_agrees(f, book));
-    let t = tally::noted(t, tally::CONSEQUENCE, consequence_agrees(f, book));
-    tally::noted(t, tally::LOG, log_agrees(f, book))
+    let t = tally::noted(t, tally::MODEL, model_agrees(f, book, m));
+    let t = tally::noted(t, tally::CONSEQUENCE, consequence_agrees(f, book, m));
+    tally::noted(t, tally::LOG, log_agrees(f, book, m))
 }
 
 // One file. Those that are refused have no book to compare.
@@ -123,7 +125,8 @@ fn one(t: Tally, d: Draft) -> Tally {
     }
     let a = asked::answer(s, limits::WITHOUT_FACTS);
     let room = a.room;
-    compared(t, r, build::part(&room, a.size))
+    let m = windows::drawn_moment(d.seed);
+    compared(t, r, build::part(&room, a.size), m)
 }
 
 // So many files, of at most eight variables.

@@ -14,6 +14,8 @@ use samples::limits;
 use samples::random;
 use samples::reckon;
 use samples::reckon::Reckoned;
+use samples::windows;
+use samples::windows::Moment;
 
 fn reckoned(d: Draft) -> Reckoned {
     let bytes = d.bytes;
@@ -52,7 +54,7 @@ fn same_fillings(a: Reckoned, b: Reckoned) -> bool {
 }
 
 // The first models, of which those of two books may differ in the helpers.
-fn models(t: Tally, first: &[u8], second: &[u8], due: Due, other: u64) -> Tally {
+fn models(t: Tally, first: &[u8], second: &[u8], m: Moment, due: Due, other: u64) -> Tally {
     let forced = due.forced;
     let due_of_other = Due {
         number: due.number,
@@ -60,8 +62,8 @@ fn models(t: Tally, first: &[u8], second: &[u8], due: Due, other: u64) -> Tally 
         model: other,
         forced,
     };
-    let t = tally::noted(t, tally::MODEL, compare::model_agrees(first, due));
-    let agrees = compare::model_agrees(second, due_of_other);
+    let t = tally::noted(t, tally::MODEL, compare::model_agrees(first, m, due));
+    let agrees = compare::model_agrees(second, m, due_of_other);
     tally::noted(t, tally::MODEL, agrees)
 }
 
@@ -74,20 +76,21 @@ fn compared(t: Tally, first: &[u8], second: &[u8], seed: u64) -> Tally {
     let room = obeying.room;
     let all = fillings::part(&room, obeying.count);
     let due = compare::due_of(a, all);
-    let t = models(t, first, second, due, fillings::first_of_book(b));
+    let m = windows::drawn_moment(seed);
+    let t = models(t, first, second, m, due, fillings::first_of_book(b));
     let t = tally::seen(t, tally::PAIRS_NO_MODEL, due.number != 0);
     let empty = reckon::has_empty_rule(a) || reckon::has_empty_rule(b);
     let t = tally::seen(t, tally::PAIRS_EMPTY_RULE, empty);
-    retyped_asked::all(t, first, second, walks::case_of(all, a), seed)
+    retyped_asked::all(t, first, second, m, walks::case_of(all, a), seed)
 }
 
 // Two books of which one has the choices, costs and facts of the other, and other rules: left out where the fillings of the
 // choices are the same after all.
-fn differing(t: Tally, first: &[u8], second: &[u8]) -> Tally {
+fn differing(t: Tally, first: &[u8], second: &[u8], m: Moment) -> Tally {
     if same_fillings(reckon::reckon(first), reckon::reckon(second)) {
         return tally::seen(t, tally::OTHERS_SAME, true);
     }
-    let differ = !asked_log::same_log(first, second);
+    let differ = !asked_log::same_log(first, second, m);
     let t = tally::seen(t, tally::OTHERS, true);
     tally::seen(t, tally::OTHERS_DIFFER, differ)
 }
@@ -101,7 +104,7 @@ fn pair(t: Tally, original: Draft, other: Draft, alike: bool) -> Tally {
     if alike {
         compared(t, first, second, other.seed)
     } else {
-        differing(t, first, second)
+        differing(t, first, second, windows::drawn_moment(other.seed))
     }
 }
 

@@ -22,12 +22,15 @@ use samples::limits;
 use samples::random;
 use samples::reckon;
 use samples::reckon::Reckoned;
+use samples::windows;
+use samples::windows::Moment;
 
-// The small book, and what is given of the other choices of the large one.
+// The small book, what is given of the other choices of the large one, and the moment at which it is asked of.
 struct Spread {
     small: Small,
     case: Case,
     others: Literals,
+    moment: Moment,
 }
 
 // A set of literals of the small book in the large one, with what is given of the other choices.
@@ -71,7 +74,7 @@ fn onward(way: Way, s: &[u8], all: &[u64], like: Spread) -> Way {
     let spread = spread_step(like.small, step);
     let t = way.tally;
     Way {
-        tally: walks::one_step(t, s, log.known, spread),
+        tally: walks::one_step(t, s, like.moment, log.known, spread),
         known: fillings::joined(way.known, step.new),
         log: logs::onward(log, spread),
     }
@@ -97,7 +100,7 @@ fn along(t: Tally, s: &[u8], all: &[u64], like: Spread) -> Way {
 fn from_any(t: Tally, s: &[u8], all: &[u64], like: Spread, seed: u64) -> Tally {
     let known = walks::known_set(like.case, seed);
     let step = spread_step(like.small, walks::due(all, like.case, known));
-    let agrees = asked::step_agrees(s, with_others(like, known), step);
+    let agrees = asked::step_agrees(s, like.moment, with_others(like, known), step);
     tally::noted(t, tally::FROM_ANY, agrees)
 }
 
@@ -121,15 +124,15 @@ fn good(t: Tally, s: &[u8], all: &[u64], like: Spread, seed: u64) -> Tally {
     let t = walks::seen_changed(t, way.tally);
     let t = tally::seen(t, walks::place_of(log.steps), true);
     let t = from_any(t, s, all, like, seed);
-    let t = walks::spoilt_sets(t, s, large_case(like), random::next(seed));
-    logged::whole(t, s, log)
+    let t = walks::spoilt_sets(t, s, like.moment, large_case(like), random::next(seed));
+    logged::whole(t, s, like.moment, log)
 }
 
 // The large book's reading, model and consequence, and how many models this takes.
-fn asked(t: Tally, s: &[u8], due: Due) -> Tally {
-    let t = compare::asked(t, s, reckon::reckon(s), due);
+fn asked(t: Tally, s: &[u8], m: Moment, due: Due) -> Tally {
+    let t = compare::asked(t, s, m, reckon::reckon(s), due);
     let bounds = models_found::bounds_of(due, limits::CHOICES as usize);
-    models_found::bounded(t, models_found::models_found(s), bounds)
+    models_found::bounded(t, models_found::models_found(s, m), bounds)
 }
 
 // The book of a small one, with the fillings that obey its rules.
@@ -142,9 +145,11 @@ fn compared(t: Tally, s: &[u8], all: &[u64], like: Spread, seed: u64) -> Tally {
         model: spread_model(like, fillings::first_model(all, facts)),
         forced: with_others(like, like.case.consequence),
     };
-    let t = asked(t, s, due);
+    let m = like.moment;
+    let t = asked(t, s, m, due);
     if !found {
-        return logged::without_model(walks::without_model(t, s, with_others(like, facts)), s);
+        let t = walks::without_model(t, s, m, with_others(like, facts));
+        return logged::without_model(t, s, m);
     }
     good(t, s, all, like, seed)
 }
@@ -157,6 +162,7 @@ fn spread_book(t: Tally, b: Reckoned, all: &[u64], seed: u64) -> Tally {
         small,
         case: walks::case_of(all, b),
         others: spread::others(small, given),
+        moment: windows::drawn_moment(seed),
     };
     let d = spread::book(b, given);
     let bytes = d.bytes;

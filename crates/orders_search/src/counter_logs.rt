@@ -9,6 +9,7 @@ use samples::build;
 use samples::build::Draft;
 use samples::counter;
 use samples::limits;
+use samples::windows;
 
 // A book, the bytes of its log, and the numbers that the call returns.
 fn logs_as(t: Tally, d: Draft, due: Draft, steps: u64, total: u64) -> Tally {
@@ -24,7 +25,7 @@ fn logs_as(t: Tally, d: Draft, due: Draft, steps: u64, total: u64) -> Tally {
     tally::noted(
         t,
         tally::COUNTER_LOGS,
-        asked_log::log_agrees(s, limits::LOG, log),
+        asked_log::log_agrees(s, windows::drawn_moment(d.seed), limits::LOG, log),
     )
 }
 
@@ -44,7 +45,8 @@ fn refuses(t: Tally, letter: u8, number: u8, place: usize) -> Tally {
     let d = counter::order(letter);
     let bytes = d.bytes;
     let s = build::part(&bytes, d.len);
-    let agrees = asked_log::log_refused(s, limits::LOG, number, place);
+    let m = windows::drawn_moment(d.seed);
+    let agrees = asked_log::log_refused(s, m, limits::LOG, number, place);
     tally::noted(t, tally::COUNTER_LOGS, agrees)
 }
 

@@ -7,23 +7,26 @@ use engine_checks::tally::Tally;
 use samples::build;
 use samples::build::Draft;
 use samples::counter;
+use samples::windows;
+use samples::windows::Moment;
 
-// Whether this is the first model of a book.
-pub fn is_first(s: &[u8], model: u64) -> bool {
+// Whether this is the first model of a book at a moment.
+pub fn is_first(s: &[u8], m: Moment, model: u64) -> bool {
     let due = Due {
         number: 0,
         place: 0,
         model,
         forced: Literals { yes: 0, no: 0 },
     };
-    compare::model_agrees(s, due)
+    compare::model_agrees(s, m, due)
 }
 
 // A book whose first model says yes of the variables of a mask.
 fn book(t: Tally, d: Draft, model: u64) -> Tally {
     let bytes = d.bytes;
     let s = build::part(&bytes, d.len);
-    tally::noted(t, tally::MODEL, is_first(s, model))
+    let m = windows::drawn_moment(d.seed);
+    tally::noted(t, tally::MODEL, is_first(s, m, model))
 }
 
 // An order that is refused.
@@ -31,7 +34,8 @@ fn refuses(t: Tally, letter: u8, number: u8, place: usize) -> Tally {
     let d = counter::order(letter);
     let bytes = d.bytes;
     let s = build::part(&bytes, d.len);
-    let agrees = compare::model_agrees(s, compare::refusal(number, place));
+    let m = windows::drawn_moment(d.seed);
+    let agrees = compare::model_agrees(s, m, compare::refusal(number, place));
     tally::noted(t, tally::MODEL, agrees)
 }
 

@@ -7,6 +7,7 @@ use engine_checks::tally::Tally;
 use samples::build;
 use samples::build::Draft;
 use samples::counter;
+use samples::windows;
 
 // These variables yes, none no.
 pub fn all_yes(mask: u64) -> Literals {
@@ -35,7 +36,8 @@ pub fn nothing_left() -> Taken {
 fn steps(t: Tally, d: Draft, known: u64, due: Taken) -> Tally {
     let bytes = d.bytes;
     let s = build::part(&bytes, d.len);
-    let agrees = asked::step_agrees(s, all_yes(known), due);
+    let m = windows::drawn_moment(d.seed);
+    let agrees = asked::step_agrees(s, m, all_yes(known), due);
     tally::noted(t, tally::COUNTER_STEPS, agrees)
 }
 
@@ -49,7 +51,8 @@ fn refuses(t: Tally, letter: u8, known: u64, number: u8, place: usize) -> Tally 
     let d = counter::order(letter);
     let bytes = d.bytes;
     let s = build::part(&bytes, d.len);
-    let agrees = asked::step_refused(s, all_yes(known), number, place);
+    let m = windows::drawn_moment(d.seed);
+    let agrees = asked::step_refused(s, m, all_yes(known), number, place);
     tally::noted(t, tally::COUNTER_STEPS, agrees)
 }
 

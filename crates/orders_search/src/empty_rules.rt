@@ -8,16 +8,18 @@ use engine_checks::walks;
 use samples::build;
 use samples::build::Draft;
 use samples::reckon;
+use samples::windows;
 
 // A book that is read, and to which each search answers 9 at 0; a log whose buffer is short is refused with 8.
 fn no_model(t: Tally, d: Draft) -> Tally {
     let bytes = d.bytes;
     let s = build::part(&bytes, d.len);
     let b = reckon::reckon(s);
-    let t = compare::asked(t, s, b, compare::refusal(9, 0));
+    let m = windows::drawn_moment(d.seed);
+    let t = compare::asked(t, s, m, b, compare::refusal(9, 0));
     let t = tally::seen(t, tally::NO_VARIABLES, b.variables == 0);
     let t = tally::seen(t, tally::EMPTY_RULE, reckon::has_empty_rule(b));
-    logged::without_model(walks::without_model(t, s, fillings::facts(b)), s)
+    logged::without_model(walks::without_model(t, s, m, fillings::facts(b)), s, m)
 }
 
 // What the books of a group are like: the rules over the first variables have so many literals, and so many choices are

@@ -13,6 +13,8 @@ use engine_checks::tally::Tally;
 use samples::build;
 use samples::build::Draft;
 use samples::limits;
+use samples::windows;
+use samples::windows::Moment;
 
 // A book whose first choices, so many, are given as yes, and its steps: each of them brings the next choice. It follows from
 // one fact, the first from the first and so on, or from a set of facts. The first model says yes only of what follows.
@@ -124,11 +126,11 @@ fn due(large: Large, i: u8) -> Taken {
 }
 
 // The engine's step after a log so far, held against the one that is due.
-fn agreed(t: Tally, s: &[u8], log: Log, due: Taken) -> Tally {
+fn agreed(t: Tally, s: &[u8], m: Moment, log: Log, due: Taken) -> Tally {
     tally::noted(
         t,
         tally::COUNTER_STEPS,
-        asked::step_agrees(s, log.known, due),
+        asked::step_agrees(s, m, log.known, due),
     )
 }
 
@@ -137,6 +139,7 @@ fn walked(t: Tally, large: Large) -> Tally {
     let d = large.book;
     let bytes = d.bytes;
     let s = build::part(&bytes, d.len);
+    let m = windows::drawn_moment(d.seed);
     let known = counter_steps::all_yes(fillings::first(large.givens as usize));
     let records = limits::RECORDS;
     let mut log = logs::begun(known);
@@ -144,16 +147,16 @@ fn walked(t: Tally, large: Large) -> Tally {
     for i in 0..records {
         if !log.ended {
             let step = due(large, i);
-            after = agreed(after, s, log, step);
+            after = agreed(after, s, m, log, step);
             log = logs::onward(log, step);
         }
     }
-    let model = counter_models::is_first(s, large.model);
+    let model = counter_models::is_first(s, m, large.model);
     let t = tally::noted(after, tally::MODEL, model);
     tally::noted(
         t,
         tally::COUNTER_LOGS,
-        asked_log::log_agrees(s, limits::LOG, log),
+        asked_log::log_agrees(s, m, limits::LOG, log),
     )
 }
 

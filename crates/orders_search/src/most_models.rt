@@ -13,6 +13,7 @@ use samples::build;
 use samples::build::Draft;
 use samples::limits;
 use samples::reckon;
+use samples::windows;
 
 // With up to so many choices there is a rule for each pair of them.
 const PAIRED: u8 = 16;
@@ -123,8 +124,9 @@ fn one(t: Tally, choices: u8, givens: u8) -> Tally {
             no: fillings::first(givens as usize),
         },
     };
-    let forced = compare::same_consequence(compare::consequence_said(s), due);
-    let t = tally::noted(t, tally::MODEL, compare::model_agrees(s, due));
+    let m = windows::drawn_moment(d.seed);
+    let forced = compare::same_consequence(compare::consequence_said(s, m), due);
+    let t = tally::noted(t, tally::MODEL, compare::model_agrees(s, m, due));
     let t = tally::noted(t, tally::CONSEQUENCE, forced);
     let open = std::num::wrapping_sub_u8(choices, givens);
     let models = std::num::wrapping_add_u32(open as u32, 1);
@@ -133,7 +135,7 @@ fn one(t: Tally, choices: u8, givens: u8) -> Tally {
     } else {
         tally::ONE_MORE_GIVEN
     };
-    let t = tally::noted(t, group, models_found::models_found(s) == models);
+    let t = tally::noted(t, group, models_found::models_found(s, m) == models);
     if choices > PAIRED {
         return t;
     }

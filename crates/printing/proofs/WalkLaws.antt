@@ -24,7 +24,7 @@ use Rattle.printing.proofs.LogLaws.{restText, step-text, end-text, no-t
 abbrev pub tail : List ℕ → ℕ → List ℕ
 tail log from = take (length log - from) (drop from log)
 
-tail-is : (log : List ℕ) (from : ℕ) → tail log from ≡ drop from log
+pub tail-is : (log : List ℕ) (from : ℕ) → tail log from ≡ drop from log
 tail-is log from = take-all (length log - from) (drop from log) (omega (arith, length-drop from log))
 
 -- after so many bytes more

@@ -1,24 +1,42 @@
--- What is printed for the starred orders at the counter (document 01), computed from the meanings of their bytes.
+-- What is printed for the starred orders at the counter (document 01) at one moment, and for inputs whose moment is cut off or cannot be (document 02, E7),
+-- computed from the meanings of their bytes.
 use mathlib.Core.Path.{_≡_, refl}
 use mathlib.Core.List.{List, [], _∷_, _++_, map}
 use Prim.Native.Nat.{ℕ}
 use lib.Count.{ones}
+use lib.ListN.{take}
 use Rattle.sets.specs.Sets.{membersFrom, membersBelow, members}
 use Rattle.literals.specs.Literal.{literalsOf}
 use Rattle.book.specs.Orders.{order-a, order-b, order-c, order-d, order-e, order-f, order-g, order-h, order-i, order-j}
 use Rattle.log.specs.Meaning.{costsWritten, withNew, runFrom, runOf, runFor}
 use Rattle.engine.specs.Calls.{withModel, logOutcome}
-use Rattle.engine.specs.Orders.{computed, readAndPosed}
+use Rattle.engine.specs.Orders.{noon, computed, readAndPosed}
 use Rattle.printing.specs.Text.{digits, decimal, literalText, literalsText, stepText, stepsText, doneText, logText, refusalText}
-use Rattle.printing.specs.Printed.{outcomeText, textOf}
+use Rattle.printing.specs.Printed.{outcomeText, momentAt, bookOutcome, inputOutcome, textOf}
 
--- An order's bytes, and the lines that are printed for them.
+-- An input, and the lines that are printed for it.
 pub record PrintedOrder : Type 0 where
   pub bytes : List ℕ
   pub lines : List (List ℕ)
 
 abbrev prints : List ℕ → List (List ℕ) → PrintedOrder
 prints s ls = record { bytes = s; lines = ls }
+
+-- 17 November 2026, noon, in six bytes.
+abbrev pub noonBytes : List ℕ
+noonBytes = 0x07 ∷ 0xEA ∷ 0x0B ∷ 0x11 ∷ 0x02 ∷ 0xD0 ∷ []
+
+pub noon-is : momentAt noonBytes ≡ noon
+unfolding momentAt readAndPosed
+noon-is = refl
+
+-- An order at noon.
+abbrev atNoon : List ℕ → List ℕ
+atNoon order = noonBytes ++ order
+
+-- 31 April 2026, noon, in six bytes: no such day.
+abbrev noDayBytes : List ℕ
+noDayBytes = 0x07 ∷ 0xEA ∷ 0x04 ∷ 0x1F ∷ 0x02 ∷ 0xD0 ∷ []
 
 -- ---- the lines, in ASCII
 
@@ -84,20 +102,28 @@ refused6 = 0x72 ∷ 0x65 ∷ 0x66 ∷ 0x75 ∷ 0x73 ∷ 0x65 ∷ 0x64 ∷ 0x20 �
 abbrev refused9 : List ℕ
 refused9 = 0x72 ∷ 0x65 ∷ 0x66 ∷ 0x75 ∷ 0x73 ∷ 0x65 ∷ 0x64 ∷ 0x20 ∷ 0x39 ∷ 0x20 ∷ 0x61 ∷ 0x74 ∷ 0x20 ∷ 0x30 ∷ 0x0A ∷ []
 
+-- refused 14 at 0
+abbrev refused14 : List ℕ
+refused14 = 0x72 ∷ 0x65 ∷ 0x66 ∷ 0x75 ∷ 0x73 ∷ 0x65 ∷ 0x64 ∷ 0x20 ∷ 0x31 ∷ 0x34 ∷ 0x20 ∷ 0x61 ∷ 0x74 ∷ 0x20 ∷ 0x30 ∷ 0x0A ∷ []
+
 -- ---- the rows
 
+-- The starred orders a to j; then no bytes, five bytes, and a moment that cannot be before the order that is refused with 6.
 unfoldable pub rows : List PrintedOrder
 rows =
-    prints order-a (refused1 ∷ [])
-    ∷ prints order-b (doneNone ∷ [])
-    ∷ prints order-c (stepP1 ∷ stepP2 ∷ doneP ∷ [])
-    ∷ prints order-d (stepD ∷ doneD ∷ [])
-    ∷ prints order-e (refused9 ∷ [])
-    ∷ prints order-f (refused9 ∷ [])
-    ∷ prints order-g (stepG ∷ doneG ∷ [])
-    ∷ prints order-h (doneNone ∷ [])
-    ∷ prints order-i (stepI ∷ doneI ∷ [])
-    ∷ prints order-j (refused6 ∷ [])
+    prints (atNoon order-a) (refused1 ∷ [])
+    ∷ prints (atNoon order-b) (doneNone ∷ [])
+    ∷ prints (atNoon order-c) (stepP1 ∷ stepP2 ∷ doneP ∷ [])
+    ∷ prints (atNoon order-d) (stepD ∷ doneD ∷ [])
+    ∷ prints (atNoon order-e) (refused9 ∷ [])
+    ∷ prints (atNoon order-f) (refused9 ∷ [])
+    ∷ prints (atNoon order-g) (stepG ∷ doneG ∷ [])
+    ∷ prints (atNoon order-h) (doneNone ∷ [])
+    ∷ prints (atNoon order-i) (stepI ∷ doneI ∷ [])
+    ∷ prints (atNoon order-j) (refused6 ∷ [])
+    ∷ prints [] (refused14 ∷ [])
+    ∷ prints (take 5 noonBytes) (refused14 ∷ [])
+    ∷ prints (noDayBytes ++ order-j) (refused14 ∷ [])
     ∷ []
 
 -- Lines, one after the other.
@@ -106,7 +132,7 @@ linesText [] = []
 linesText (l ∷ ls) = l ++ linesText ls
 
 pub rows-agree : map (λ (r : PrintedOrder). textOf (r .bytes)) rows ≡ map (λ (r : PrintedOrder). linesText (r .lines)) rows
-unfolding rows textOf outcomeText logText stepsText stepText doneText refusalText literalsText literalText decimal digits computed readAndPosed
-    order-a order-b order-c order-d order-e order-f order-g order-h order-i order-j withModel logOutcome runFor runOf runFrom withNew costsWritten
-    literalsOf members membersBelow membersFrom ones
+unfolding rows textOf inputOutcome bookOutcome momentAt outcomeText logText stepsText stepText doneText refusalText literalsText literalText decimal digits
+    computed readAndPosed order-a order-b order-c order-d order-e order-f order-g order-h order-i order-j withModel logOutcome runFor runOf runFrom withNew
+    costsWritten literalsOf members membersBelow membersFrom ones
 rows-agree = refl

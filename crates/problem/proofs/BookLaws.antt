@@ -2,7 +2,7 @@
 -- Assumes nothing.
 use mathlib.Core.Path.{_≡_, refl, sym, ap, _∙_}
 use mathlib.Core.Logic.{_≢_, _⊎_, inl, inr, by-cases}
-use mathlib.Core.Bool.{Bool, true, false}
+use mathlib.Core.Bool.{Bool, true, false, cond}
 use mathlib.Core.List.{List, [], _∷_, _++_, map, append-assoc}
 use Prim.Native.Nat.{ℕ, zero, suc, _+_, _-_, _^_, _≤_, _<_}
 use native.Mathlib.Nat.{le-trans}
@@ -19,8 +19,10 @@ use Rattle.literals.specs.Literal.{Literal, variable}
 use Rattle.literals.specs.Truth.{yesBit, noBit, yesMask, noMask}
 use Rattle.literals.specs.Laws.{Proper, signBit, signMask, mask-none, mask-more, sign-bit}
 use Rattle.records.specs.Limits.{maxChoices, maxRules, maxCost}
-use Rattle.records.specs.Format.{OrderBook, Cost, rising}
-use Rattle.book.specs.Answer.{table, row, padded}
+use Rattle.dates.specs.Windows.{inForce}
+use Rattle.dates.specs.declared.Moment.{Moment}
+use Rattle.records.specs.Format.{Rule, OrderBook, Cost, rising}
+use Rattle.book.specs.Answer.{maskedBook, table, row, padded, ruleWindow, noWindow}
 use Rattle.records.proofs.LiteralLaws.{RisingHead, rising-head}
 use Rattle.book.proofs.CostLaws.{GoodCost}
 use Rattle.book.proofs.RuleLaws.{LiteralsRise}
@@ -30,8 +32,9 @@ use Rattle.propagation.specs.Contracts.{MasksBelow}
 use Rattle.sat.specs.Contracts.{Posed}
 use Rattle.sat.specs.Laws.Rules.{Of, masks-none, masks-more, mask-lt}
 use Rattle.problem.specs.Limits.{mostRules}
-use Rattle.problem.specs.Problem.{Problem, problemOf, given, costOf}
-use Rattle.problem.specs.Masked.{widenedTo}
+use Rattle.problem.specs.Problem.{Problem, rulesInForce, problemOf, given, costOf}
+use Rattle.problem.specs.Masked.{keptInForce}
+use Rattle.problem.proofs.InForceLaws.{in-force-masks, in-force-few}
 use Rattle.problem.specs.Proper.{AllOf, ProperProblem}
 
 -- ---- literals that rise
@@ -108,22 +111,27 @@ cost-bound (c ∷ cs) e k (suc v) column = cost-bound cs (e .1) k v column
 
 -- ---- the problem of an accepted book
 
-all-of : (n : ℕ) (rs : List (List Literal)) → Each (LiteralsRise n) rs → AllOf n rs
-all-of n [] e = tt
-all-of n (r ∷ rs) e = (rising-of n 0 r (e .0 .rises), all-of n rs (e .1))
+all-of : (n : ℕ) (moment : Moment) (rs : List Rule) → Each (λ (r : Rule). LiteralsRise n (r .literals)) rs → AllOf n (rulesInForce moment rs)
+unfolding rulesInForce
+all-of n moment [] e = tt
+all-of n moment (r ∷ rs) e = go (inForce moment (r .applies)) (all-of n moment rs (e .1))
+  where
+    go : (b : Bool) → AllOf n (rulesInForce moment rs) → AllOf n (cond b (r .literals ∷ rulesInForce moment rs) (rulesInForce moment rs))
+    go true h = (rising-of n 0 (r .literals) (e .0 .rises), h)
+    go false h = h
 
-module _ {b : OrderBook} (w : WellFormed b) where
+module _ {b : OrderBook} (w : WellFormed b) (moment : Moment) where
   facts-of : Of (b .header .choices) (b .facts)
   facts-of = rising-of _ 0 (b .facts) (w .facts-rise .rises)
 
-  pub proper-book : ProperProblem (problemOf b)
+  pub proper-book : ProperProblem (problemOf moment b)
   unfolding problemOf table padded
   proper-book = record {
     few-variables = w .few-variables;
     few-choices = le-trans (full-lt (b .header .choices)) (pow-mono (w .few-choices));
     choices-below = le-trans (full-lt (b .header .choices)) (pow-mono (w .choices-among));
-    few-rules = omega (arith, w .rule-count, w .few-rules);
-    rules-over = all-of _ (b .rules) (w .rules-rise);
+    few-rules = omega (arith, w .rule-count, w .few-rules, in-force-few moment (b .rules));
+    rules-over = all-of _ moment (b .rules) (w .rules-rise);
     facts-proper = rising-proper _ 0 (b .facts) (w .facts-rise .rises);
     facts-apart = rising-apart _ 0 (b .facts) (w .facts-rise .rises);
     yes-facts = below-full _ _ (mask-lt true _ (b .facts) facts-of);
@@ -131,22 +139,39 @@ module _ {b : OrderBook} (w : WellFormed b) where
     cheap = cost-bound (b .costs) (w .costs-good) (maxChoices - length (map row (b .costs)));
   }
 
-  -- the arrays have room
-  padded-length : (mask : List Literal → ℕ) → length (padded 0 maxRules (map mask (b .rules))) ≡ maxRules
-  unfolding padded
-  padded-length mask =
-      length-append (map mask (b .rules)) _
-      ∙ rw (length-replicate {A = ℕ} (maxRules - length (map mask (b .rules))) 0) (omega (arith, length-map (b .rules) mask, w .rule-count, w .few-rules))
+  -- ---- the arrays of the code
 
-  pub room : (mask : List Literal → ℕ) → length (widenedTo (padded 0 maxRules (map mask (b .rules)))) ≡ mostRules
-  room mask = length-append (padded 0 maxRules (map mask (b .rules))) _ ∙ rw (padded-length mask) refl
-
-  -- up to the last rule they hold the masks of the rules
-  pub masks-kept : (mask : List Literal → ℕ) → take (b .header .rules) (widenedTo (padded 0 maxRules (map mask (b .rules)))) ≡ map mask (b .rules)
+  -- up to the last rule the book's arrays hold what was kept of its rules
+  kept-rules : {A : Type 0} (d : A) (f : Rule → A) → take (b .header .rules) (padded d maxRules (map f (b .rules))) ≡ map f (b .rules)
   unfolding padded
-  masks-kept mask =
-      rw (append-assoc (map mask (b .rules)) (replicate (maxRules - length (map mask (b .rules))) 0) (replicate (mostRules - maxRules) 0))
-      (take-at (map mask (b .rules)) _ (b .header .rules) (length-map (b .rules) mask ∙ w .rule-count))
+  kept-rules d f = take-at (map f (b .rules)) _ (b .header .rules) (length-map (b .rules) f ∙ w .rule-count)
+
+  -- Of the masks of one sign in the book's array, those that are picked.
+  abbrev pickedOf : (List Literal → ℕ) → List ℕ
+  pickedOf mask = keptInForce moment (maskedBook b) (padded 0 maxRules (map (λ (r : Rule). mask (r .literals)) (b .rules)))
+
+  -- they are the masks of the rules in force
+  masks-picked : (mask : List Literal → ℕ) → pickedOf mask ≡ map mask (problemOf moment b .rules)
+  unfolding problemOf
+  masks-picked mask = rw (kept-rules noWindow ruleWindow, kept-rules 0 (λ (r : Rule). mask (r .literals))) (in-force-masks moment mask (b .rules))
+
+  picked-length : (mask : List Literal → ℕ) → length (pickedOf mask) ≡ length (problemOf moment b .rules)
+  picked-length mask = ap length (masks-picked mask) ∙ length-map (problemOf moment b .rules) mask
+
+  -- there are few of them
+  pub few-picked : length (pickedOf yesMask) ≤ mostRules
+  few-picked = omega (arith, picked-length yesMask, proper-book .few-rules)
+
+  -- they stand at the front of an array that has room for the most rules
+  pub room : (mask : List Literal → ℕ) → length (padded 0 mostRules (pickedOf mask)) ≡ mostRules
+  unfolding padded
+  room mask =
+      length-append (pickedOf mask) _
+      ∙ rw (length-replicate {A = ℕ} (mostRules - length (pickedOf mask)) 0) (omega (arith, picked-length mask, proper-book .few-rules))
+
+  pub masks-kept : (mask : List Literal → ℕ) → take (length (pickedOf yesMask)) (padded 0 mostRules (pickedOf mask)) ≡ map mask (problemOf moment b .rules)
+  unfolding padded
+  masks-kept mask = take-at (pickedOf mask) _ _ (picked-length mask ∙ sym (picked-length yesMask)) ∙ masks-picked mask
 
 -- ---- the search of a proper problem
 

@@ -1,15 +1,13 @@
 -- Masks copied into an array, one after the other. Assumes nothing.
-use mathlib.Core.Path.{_≡_, refl, ap, subst, _∙_}
-use mathlib.Core.List.{List, _++_}
+use mathlib.Core.Path.{_≡_, refl, subst, _∙_}
+use mathlib.Core.List.{List}
 use Prim.Native.Nat.{ℕ, suc, _+_, _≤_, _<_}
 use native.Mathlib.Numerals.{add-one}
 use native.Mathlib.Nat.{zero-add}
 use native.Mathlib.Omega.{arith}
-use lib.ListN.{length, getD, set, drop, replicate, length-set}
+use lib.ListN.{length, getD, set, length-set}
 use lib.Seq.{paste, paste-zero, paste-suc, take-length}
-use Rattle.records.specs.Limits.{maxRules}
-use Rattle.problem.specs.Limits.{mostRules}
-use Rattle.problem.specs.Masked.{copiedInto, widenedTo}
+use Rattle.problem.specs.Masked.{copiedInto}
 
 -- The first i masks are in their places.
 pub record Copying (masks all₀ all : List ℕ) (i : ℕ) : Type 0 where
@@ -43,7 +41,3 @@ module _ {masks all₀ : List ℕ} where
       let end : i ≡ length masks = omega (arith, c .upto) in c .copied ∙ rw (end, take-length masks, zero-add (length masks)) refl
 
 pub ruleset copy-laws = (copy-start, copy-more, copy-room, copy-length, copy-all)
-
--- the masks of a book's rules, in an array of zeros
-pub widened-said : {all : List ℕ} (masks : List ℕ) → length masks ≡ maxRules → all ≡ copiedInto masks (replicate mostRules 0) → all ≡ widenedTo masks
-widened-said masks h e = e ∙ ap (λ (n : ℕ). masks ++ drop n (replicate mostRules 0)) h

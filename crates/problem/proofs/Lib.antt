@@ -1,3 +1,4 @@
 mod CopyLaws
+pub mod InForceLaws
 pub mod BookLaws
 pub mod SearchableLaws

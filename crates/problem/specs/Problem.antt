@@ -1,6 +1,7 @@
--- The problem that the engine answers: what a book says, with nothing left of its bytes. Models, the consequence, the step, the log and the demands are
+-- The problem that the engine answers: what a book says at a moment, with nothing left of its bytes. Models, the consequence, the step, the log and the demands are
 -- stated over it; how it is made from a book is said here alone.
-use mathlib.Core.List.{List, []}
+use mathlib.Core.Bool.{cond}
+use mathlib.Core.List.{List, [], _∷_}
 use Prim.Native.Nat.{ℕ, zero, suc}
 use lib.IntN.{pos, negsuc}
 use lib.ListN.{getD}
@@ -8,7 +9,9 @@ use Rattle.sets.specs.Sets.{full}
 use Rattle.literals.specs.Literal.{Literal}
 use Rattle.literals.specs.Truth.{yesMask, noMask}
 use Rattle.literals.specs.declared.LiteralSet.{LiteralSet}
-use Rattle.records.specs.Format.{OrderBook}
+use Rattle.dates.specs.Windows.{inForce}
+use Rattle.dates.specs.declared.Moment.{Moment}
+use Rattle.records.specs.Format.{Rule, OrderBook}
 use Rattle.book.specs.Answer.{table}
 
 -- So many variables; the rules, each a list of literals; the set of the variables that are choices, the others are helpers (element v of the set is
@@ -20,12 +23,17 @@ pub record Problem : Type 0 where
   pub facts : List Literal
   pub costs : List (List ℕ)
 
--- The problem of a book: all its rules, and its first U variables as choices.
-unfoldable pub problemOf : OrderBook → Problem
-problemOf b =
+-- The rules in force at a moment (document 02, E7), in the book's order: those without a window, and those whose window is open.
+unfoldable pub rulesInForce : Moment → List Rule → List (List Literal)
+rulesInForce moment [] = []
+rulesInForce moment (r ∷ rs) = cond (inForce moment (r .applies)) (r .literals ∷ rulesInForce moment rs) (rulesInForce moment rs)
+
+-- The problem of a book at a moment: its rules in force, and its first U variables as choices.
+unfoldable pub problemOf : Moment → OrderBook → Problem
+problemOf moment b =
     record {
       variables = b .header .variables;
-      rules = b .rules;
+      rules = rulesInForce moment (b .rules);
       choices = full (b .header .choices);
       facts = b .facts;
       costs = table (b .costs);

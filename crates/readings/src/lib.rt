@@ -2,8 +2,15 @@
 use book::Book;
 use book::Reading;
 use book::Verdict;
+use dates::Applies;
+use dates::Date;
+use dates::Moment;
+use records::RuleWindow;
+use samples::calendar;
 use samples::limits;
 use samples::reckon::Reckoned;
+use samples::windows;
+use samples::windows::Window;
 
 // Whether a verdict has this number and this place; number 0 stands for a book that is accepted.
 pub fn says(verdict: Verdict, number: u8, place: usize) -> bool {
@@ -74,6 +81,55 @@ fn same_rules(book: Book, due: Reckoned) -> bool {
     same_masks(no, due_no)
 }
 
+// A moment as the engine has it.
+pub fn moment_of(m: windows::Moment) -> Moment {
+    let date = Date {
+        year: calendar::year_of(m.date),
+        month: calendar::month_of(m.date),
+        day: calendar::day_of(m.date),
+    };
+    Moment {
+        date,
+        minute: m.minute,
+    }
+}
+
+// A date as one number.
+fn number_of(d: Date) -> u32 {
+    calendar::date(d.year, d.month, d.day)
+}
+
+// Whether a rule applies as it is reckoned to: always, or in the same window.
+fn same_window(applies: Applies, due: Window) -> bool {
+    match applies {
+        Applies::Always => due.weekdays == 0,
+        Applies::During(w) => {
+            let found = Window {
+                first: number_of(w.first_day),
+                end: number_of(w.end_day),
+                weekdays: w.weekdays,
+                first_minute: w.first_minute,
+                end_minute: w.end_minute,
+            };
+            w.weekdays != 0 && windows::same(found, due)
+        }
+    }
+}
+
+fn same_windows(kept: [RuleWindow; Book::MAX_RULES], due: [Window; limits::MASKS]) -> bool {
+    let mut same = true;
+    let rules = limits::MASKS;
+    for i in 0..rules {
+        let rule = kept[i];
+        let applies = rule.applies;
+        let window = due[i];
+        if !same_window(applies, window) {
+            same = false;
+        }
+    }
+    same
+}
+
 // Whether a reading and a table of costs are what is reckoned, the book beside a refusal and its costs included.
 pub fn agree(reading: Reading, costs: [[u16; 2]; Book::MAX_CHOICES], due: Reckoned) -> bool {
     let verdict = reading.verdict;
@@ -85,6 +141,11 @@ pub fn agree(reading: Reading, costs: [[u16; 2]; Book::MAX_CHOICES], due: Reckon
         return false;
     }
     if !same_rules(book, due) {
+        return false;
+    }
+    let kept = book.windows;
+    let due_windows = due.windows;
+    if !same_windows(kept, due_windows) {
         return false;
     }
     let due_costs = due.costs;

@@ -15,6 +15,9 @@ use Rattle.records.specs.declared.rules.LiteralsRead.{LiteralsRead}
 use Rattle.records.specs.declared.rules.LiteralsRead.the-variants as LiteralsRead
 use Rattle.records.specs.declared.rules.RuleRead.{RuleRead}
 use Rattle.records.specs.declared.rules.RuleRead.the-variants as RuleRead
+use Rattle.dates.specs.declared.Window.{Window}
+use Rattle.records.specs.declared.windows.WindowRead.{WindowRead}
+use Rattle.records.specs.declared.windows.WindowRead.the-variants as WindowRead
 use Rattle.records.specs.declared.facts.FactRead.{FactRead}
 use Rattle.records.specs.declared.facts.FactRead.the-variants as FactRead
 use Rattle.records.specs.declared.mark.Check.{Check}
@@ -43,6 +46,10 @@ literalsAnswer n ls = cond (rising n 0 ls) (LiteralsRead.Says (masks ls)) Litera
 unfoldable pub ruleAnswer : RecordRead (List Literal) → RuleRead
 ruleAnswer (says ls len) = RuleRead.Says (masks ls) len
 ruleAnswer (fails number) = RuleRead.Fails number
+
+unfoldable pub windowAnswer : RecordRead Window → WindowRead
+windowAnswer (says w len) = WindowRead.Says w
+windowAnswer (fails number) = WindowRead.Fails number
 
 unfoldable pub factAnswer : RecordRead Literal → FactRead
 factAnswer (says l len) = FactRead.Says l

@@ -6,7 +6,12 @@ use Prim.Native.Nat.{ℕ, zero, suc, _+_, _*_}
 use lib.Dec.{leb, ltb, eqb}
 use lib.ListN.{length, getD, take, drop}
 use Rattle.literals.specs.Literal.{Literal, variable, ofByte}
-use Rattle.records.specs.Limits.{maxVariables, maxChoices, maxRules, maxCost, maxLiterals}
+use Rattle.dates.specs.Windows.{isWindow}
+use Rattle.dates.specs.declared.Date.{Date}
+use Rattle.dates.specs.declared.Window.{Window}
+use Rattle.dates.specs.declared.Applies.{Applies}
+use Rattle.dates.specs.declared.Applies.the-variants as Applies
+use Rattle.records.specs.Limits.{maxVariables, maxChoices, maxRules, maxCost, maxLiterals, windowSize}
 
 -- ---- what a book says
 
@@ -21,11 +26,20 @@ pub record Cost : Type 0 where
   pub ofYes : ℕ
   pub ofNo : ℕ
 
--- An order book: V, U and R, the costs of choices 1 to U, the R rules as the literals that stand in them, the given facts.
+-- A rule: the literals that stand in it, and when it applies.
+pub record Rule : Type 0 where
+  pub literals : List Literal
+  pub applies : Applies
+
+-- A rule that always applies.
+abbrev pub always : List Literal → Rule
+always ls = record { literals = ls; applies = Applies.Always }
+
+-- An order book: V, U and R, the costs of choices 1 to U, the R rules, the given facts.
 pub record OrderBook : Type 0 where
   pub header : Header
   pub costs : List Cost
-  pub rules : List (List Literal)
+  pub rules : List Rule
   pub facts : List Literal
 
 -- ---- answers of a reader
@@ -88,6 +102,9 @@ CS = 0x43 ∷ 0x53 ∷ []
 abbrev pub RL : List ℕ
 RL = 0x52 ∷ 0x4C ∷ []
 
+abbrev pub WN : List ℕ
+WN = 0x57 ∷ 0x4E ∷ []
+
 abbrev pub FA : List ℕ
 FA = 0x46 ∷ 0x41 ∷ []
 
@@ -97,6 +114,10 @@ EN = 0x45 ∷ 0x4E ∷ []
 -- Whether a part begins with a mark.
 unfoldable pub marked : List ℕ → List ℕ → Bool
 marked mark s = eqb (byte s 0) (byte mark 0) && eqb (byte s 1) (byte mark 1)
+
+-- Whether a part begins with a mark, where it may be short.
+unfoldable pub begins : List ℕ → List ℕ → Bool
+begins mark s = leb 2 (length s) && marked mark s
 
 -- ---- the records: mark, count byte, presence of all fields, then the field values from the left
 
@@ -151,6 +172,23 @@ ruleValues n s =
 unfoldable pub ruleAt : ℕ → List ℕ → RecordRead (List Literal)
 ruleAt n s = checkedFirst (opened RL 3 s) (ruleValues n s)
 
+-- A date in four bytes: its year in two of them, its month, its day.
+unfoldable pub dateAt : List ℕ → ℕ → Date
+dateAt s i = record { year = pair s i; month = byte s (i + 2); day = byte s (i + 3) }
+
+-- WN: first day, end day, weekdays, first minute, end minute.
+unfoldable pub windowFields : List ℕ → Window
+windowFields s =
+    record { «first_day» = dateAt s 2; «end_day» = dateAt s 6; weekdays = byte s 10; «first_minute» = pair s 11; «end_minute» = pair s 13 }
+
+unfoldable pub windowValues : List ℕ → RecordRead Window
+windowValues s =
+    check (isWindow (windowFields s)) 14
+    (says (windowFields s) windowSize)
+
+unfoldable pub windowAt : List ℕ → RecordRead Window
+windowAt s = checkedFirst (opened WN windowSize s) (windowValues s)
+
 -- FA in a book of u choices, after a fact over the variable `last` (0 where there is none): one literal.
 unfoldable pub factValues : ℕ → ℕ → List ℕ → RecordRead Literal
 factValues u last s =
@@ -160,27 +198,41 @@ factValues u last s =
 unfoldable pub factAt : ℕ → ℕ → List ℕ → RecordRead Literal
 factAt u last s = checkedFirst (opened FA 3 s) (factValues u last s)
 
--- Whether a part begins with FA.
-unfoldable pub atFact : List ℕ → Bool
-atFact s = leb 2 (length s) && marked FA s
-
 -- EN: the mark alone.
 unfoldable pub endAt : List ℕ → RecordRead (Unit {0})
 endAt s = opened EN 2 s
 
--- ---- the book: HD, then U of CS, R of RL, any number of FA, and EN with nothing after it
+-- ---- the book: HD, then U of CS, R of RL, each with a WN after it or none, any number of FA, and EN with nothing after it
 
-module _ {A : Type 0} (recordAt : ℕ → List ℕ → RecordRead A) (s : List ℕ) where
-  -- So many records of one kind, the first of them number i, from a place on.
+-- One CS, from a place on.
+unfoldable pub costFrom : List ℕ → ℕ → ℕ → Read Cost
+costFrom s due place = begin place (costAt due (drop place s)) value
+
+-- WN where one stands, from a place on: where none does, the rule before it always applies.
+unfoldable pub windowFrom : List ℕ → ℕ → Read Applies
+windowFrom s place =
+    cond (begins WN (drop place s))
+    (begin place (windowAt (drop place s)) (λ w next. value (Applies.During w) next))
+    (value Applies.Always place)
+
+-- One RL, from a place on, and the WN that may follow it.
+unfoldable pub ruleFrom : List ℕ → ℕ → ℕ → Read Rule
+ruleFrom s n place =
+    begin place (ruleAt n (drop place s)) (λ ls place.
+    andThen (windowFrom s place) (λ applies place.
+    value (record { literals = ls; applies = applies }) place))
+
+module _ {A : Type 0} (itemFrom : ℕ → ℕ → Read A) where
+  -- So many items of one kind, the first of them number i, from a place on.
   unfoldable pub many : ℕ → ℕ → ℕ → Read (List A)
   many zero i place = value [] place
-  many (suc left) i place = begin place (recordAt i (drop place s)) (λ a next. withItem a (many left (suc i) next))
+  many (suc left) i place = andThen (itemFrom i place) (λ a next. withItem a (many left (suc i) next))
 
 -- The facts from a place on, and EN. Each FA takes three bytes, so as many turns as there are bytes are enough (`facts-enough`, book/proofs/FactLaws).
 unfoldable pub factsFrom : List ℕ → ℕ → ℕ → ℕ → ℕ → Read (List Literal)
 factsFrom s u zero last place = refused 1 place
 factsFrom s u (suc turns) last place =
-    cond (atFact (drop place s))
+    cond (begins FA (drop place s))
     (begin place (factAt u last (drop place s)) (λ l next. withItem l (factsFrom s u turns (variable l) next)))
     (begin place (endAt (drop place s)) (λ e next. value [] next))
 
@@ -191,7 +243,7 @@ bookEnds s place b = cond (ltb place (length s)) (refused 7 place) (value b plac
 -- The book from its rules on, after the header and the costs.
 unfoldable pub fromRules : List ℕ → Header → List Cost → ℕ → Read OrderBook
 fromRules s h costs place =
-    andThen (many (λ i. ruleAt (h .variables)) s (h .rules) 1 place) (λ rules place.
+    andThen (many (λ i. ruleFrom s (h .variables)) (h .rules) 1 place) (λ rules place.
     andThen (factsFrom s (h .choices) (suc (length s)) 0 place) (λ facts place.
     bookEnds s place (record { header = h; costs = costs; rules = rules; facts = facts })))
 
@@ -199,5 +251,5 @@ fromRules s h costs place =
 unfoldable pub readBook : List ℕ → Read OrderBook
 readBook s =
     begin 0 (headerAt s) (λ h place.
-    andThen (many costAt s (h .choices) 1 place) (λ costs place.
+    andThen (many (costFrom s) (h .choices) 1 place) (λ costs place.
     fromRules s h costs place))

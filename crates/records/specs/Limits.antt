@@ -33,10 +33,14 @@ okSize = 7
 abbrev pub maxLog : ℕ
 maxLog = maxChoices * maxStepBytes + okSize
 
--- The bytes of a book without facts, at most: HD, CS for each choice, RL for each rule with the most literals, EN.
+-- The bytes of a book without windows and facts, at most: HD, CS for each choice, RL for each rule with the most literals, EN.
 abbrev pub maxWithoutFacts : ℕ
 maxWithoutFacts = 5 + maxChoices * 7 + maxRules * (3 + maxLiterals) + 2
 
--- The bytes of a book, at most: with FA for each choice besides.
+-- The bytes of a WN record.
+abbrev pub windowSize : ℕ
+windowSize = 15
+
+-- The bytes of a book, at most: with WN for each rule and FA for each choice besides.
 abbrev pub maxBook : ℕ
-maxBook = maxWithoutFacts + maxChoices * 3
+maxBook = maxWithoutFacts + maxRules * windowSize + maxChoices * 3

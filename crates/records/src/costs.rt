@@ -14,7 +14,7 @@ pub enum CostRead {
 }
 
 // A two-byte number, the high byte first.
-fn pair_at(s: &[u8], i: usize) -> u16
+pub fn pair_at(s: &[u8], i: usize) -> u16
     requires { ⌜ i + 1 < length (now s) ⌝ }
     ensures { λ r. ⌜ r ≡ pair (now (s .entry)) i ⌝ }
 {

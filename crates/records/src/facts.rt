@@ -2,7 +2,7 @@
 ghost use mathlib.Core.Path.{_≡_};
 ghost use Prim.Native.Nat.{_≤_};
 ghost use lib.ListN.{length};
-ghost use Rattle.records.specs.Format.{factAt, factValues, atFact};
+ghost use Rattle.records.specs.Format.{factAt, factValues};
 ghost use Rattle.records.specs.Contracts.{factAnswer};
 use crate::mark;
 use crate::mark::Check;
@@ -36,15 +36,4 @@ fn fact_values(s: &[u8], u: usize, last: usize) -> FactRead
         return FactRead::Fails(6);
     }
     FactRead::Says(l)
-}
-
-// Whether a part begins with FA.
-pub fn at_fact(s: &[u8]) -> bool
-    ensures { λ r. ⌜ r ≡ atFact (now (s .entry)) ⌝ }
-{
-    if 2 <= s.len() {
-        mark::has_mark(s, mark::FA)
-    } else {
-        false
-    }
 }

@@ -4,8 +4,17 @@ pub mod facts;
 pub mod header;
 pub mod mark;
 pub mod rules;
+pub mod windows;
 
-// A book as it is kept: the counts V, U and R, the rules as two parallel arrays of masks, the given facts as two masks.
+use dates::Applies;
+
+// When a rule applies, in a struct: a field cannot be an array of enums.
+pub struct RuleWindow {
+    pub applies: Applies,
+}
+
+// A book as it is kept: the counts V, U and R, the rules as two parallel arrays of masks and their windows beside them, the
+// given facts as two masks.
 // Bit v - 1 of a mask stands for variable v: in `yes` where the rule has the literal v, in `no` where it has -v.
 pub struct Book {
     pub variables: usize,
@@ -13,6 +22,7 @@ pub struct Book {
     pub rules: usize,
     pub yes: [u64; Book::MAX_RULES],
     pub no: [u64; Book::MAX_RULES],
+    pub windows: [RuleWindow; Book::MAX_RULES],
     pub facts_yes: u64,
     pub facts_no: u64,
 }

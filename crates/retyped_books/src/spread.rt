@@ -9,6 +9,7 @@ use brute_force::fillings::Literals;
 use samples::build::Draft;
 use samples::limits;
 use samples::reckon::Reckoned;
+use samples::windows;
 
 // How many variables and choices the small book has: at most ten choices, and at most sixteen helpers.
 pub struct Small {
@@ -112,6 +113,7 @@ pub fn book(b: Reckoned, given: bool) -> Draft {
     let yes = b.yes;
     let no = b.no;
     let facts = fillings::joined(literals(small, fillings::facts(b)), others(small, given));
+    let none = windows::none();
     let large = Reckoned {
         number: 0,
         place: 0,
@@ -123,6 +125,7 @@ pub fn book(b: Reckoned, given: bool) -> Draft {
         facts_yes: facts.yes,
         facts_no: facts.no,
         costs: costs(b),
+        windows: [none; limits::MASKS],
     };
     written::book(rules::of_book(large, 1), large)
 }

@@ -1,7 +1,10 @@
 // Books as bytes: records put one after another into a draft.
 ghost use Prim.Native.Nat.{_≤_};
 ghost use lib.ListN.{length};
+use crate::calendar;
 use crate::limits;
+use crate::windows;
+use crate::windows::Window;
 
 // The bytes put so far, at the start of a room that holds the longest book and more; and the generator's state, which a
 // book that is made up takes along.
@@ -12,7 +15,7 @@ pub struct Draft {
 }
 
 impl Draft {
-    pub const ROOM: usize = 2048;
+    pub const ROOM: usize = 4096;
 }
 
 pub fn empty() -> Draft {
@@ -82,6 +85,23 @@ pub fn long_rule(d: Draft, first: u8, count: u8) -> Draft {
     made
 }
 
+// A date's four bytes.
+fn date(d: Draft, date: u32) -> Draft {
+    let made = pair(d, calendar::year_of(date));
+    put2(made, calendar::month_of(date), calendar::day_of(date))
+}
+
+// The record of a window, for the rule before it.
+pub fn window(d: Draft, w: Window) -> Draft {
+    let days = date(date(put2(d, b'W', b'N'), w.first), w.end);
+    pair(pair(put(days, w.weekdays), w.first_minute), w.end_minute)
+}
+
+// The record of a window where the rule has one.
+pub fn any_window(d: Draft, w: Window) -> Draft {
+    if w.weekdays == 0 { d } else { window(d, w) }
+}
+
 pub fn fact(d: Draft, literal: u8) -> Draft {
     put(put2(d, b'F', b'A'), literal)
 }
@@ -117,12 +137,15 @@ pub fn negated(v: u8) -> u8 {
 // The variables that a rule of the most literals, one after another, can begin with.
 const FIRST_VARIABLES: u8 = limits::VARIABLES - limits::LITERALS + 1;
 
-// Rules of the most literals, beginning with variable 1, with 2, .. and round again.
-fn long_rules(d: Draft, rules: u8) -> Draft {
+// Rules of the most literals, beginning with variable 1, with 2, .. and round again, each with its window or none with one.
+fn long_rules(d: Draft, rules: u8, with_windows: bool) -> Draft {
     let mut made = d;
     for i in 0..rules {
         let first = std::num::wrapping_add_u8(i % FIRST_VARIABLES, 1);
         made = long_rule(made, first, limits::LITERALS);
+        if with_windows {
+            made = window(made, windows::nth(i));
+        }
     }
     made
 }
@@ -137,10 +160,10 @@ pub fn first_facts(d: Draft, choices: u8, yes: bool) -> Draft {
     made
 }
 
-// The longest book: every count and every record at its most.
-pub fn longest() -> Draft {
+// The longest book, every count and every record at its most, with a window for each rule or without windows.
+pub fn longest(with_windows: bool) -> Draft {
     let d = header(empty(), limits::VARIABLES, limits::CHOICES, limits::RULES);
-    let d = long_rules(costs(d, limits::CHOICES), limits::RULES);
+    let d = long_rules(costs(d, limits::CHOICES), limits::RULES, with_windows);
     end(first_facts(d, limits::CHOICES, false))
 }
 

@@ -19,7 +19,8 @@ pub fn changed(mut d: Draft, place: usize, b: u8) -> Draft {
 // The byte at a place gone, those behind it moved up.
 pub fn without(d: Draft, place: usize) -> Draft {
     let mut made = d;
-    for i in place..Draft::ROOM - 1 {
+    let last = Draft::ROOM - 1;
+    for i in place..last {
         let j = i + 1;
         let b = made.bytes[j];
         made.bytes[i] = b;
@@ -34,7 +35,8 @@ pub fn without(d: Draft, place: usize) -> Draft {
 pub fn with(d: Draft, place: usize, b: u8) -> Draft {
     let mut made = d;
     let mut carried = b;
-    for i in place..Draft::ROOM {
+    let end = Draft::ROOM;
+    for i in place..end {
         let next = made.bytes[i];
         made.bytes[i] = carried;
         carried = next;

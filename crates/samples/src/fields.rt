@@ -3,6 +3,7 @@ ghost use Prim.Native.Nat.{_<_};
 use crate::limits;
 use crate::machine;
 use crate::machine::Machine;
+use crate::windows;
 
 // A rule's count, which is refused before its literals are waited for. A rule of no literals ends with it.
 pub fn count(mut m: Machine, b: u8) -> Machine {
@@ -121,6 +122,19 @@ fn rule_field(mut m: Machine, b: u8) -> Machine {
     m
 }
 
+// One byte of a window, which is judged once its last one is there.
+fn window_field(mut m: Machine, b: u8) -> Machine {
+    let before = m.window;
+    let after = windows::with_byte(before, m.left, b);
+    m.window = after;
+    if m.left == 1 {
+        if !windows::can_be(after) {
+            m.bad = 14;
+        }
+    }
+    m
+}
+
 fn fact_field(mut m: Machine, b: u8) -> Machine {
     let v = variable(b);
     if !may_follow(v, m.last_fact, m.choices) {
@@ -142,6 +156,7 @@ pub fn field(m: Machine, b: u8) -> Machine {
         b'H' => header_field(m, b),
         b'C' => cost_field(m, b),
         b'R' => rule_field(m, b),
+        b'W' => window_field(m, b),
         _ => fact_field(m, b),
     };
     after.left = std::num::wrapping_sub_u8(after.left, 1);

@@ -1,5 +1,6 @@
 // Sample books, which the test programs share: built as bytes, made up, edited, and reckoned by a pass of their own.
 pub mod build;
+pub mod calendar;
 pub mod counter;
 pub mod edits;
 mod fields;
@@ -8,3 +9,4 @@ mod machine;
 pub mod order;
 pub mod random;
 pub mod reckon;
+pub mod windows;

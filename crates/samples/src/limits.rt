@@ -23,7 +23,20 @@ pub const MASKS: usize = RULES as usize;
 
 pub const COSTS: usize = 2 * CHOICES as usize;
 
-// The bytes of the longest log, and of the longest book without facts.
+// The first and the last year of a date, the days of these years, and the minutes of a day.
+pub const FIRST_YEAR: u16 = 2000;
+
+pub const LAST_YEAR: u16 = 2099;
+
+pub const DAYS: u32 = 36525;
+
+pub const MINUTES: u16 = 1440;
+
+// The bytes of the longest log, of a window's record, of the longest book, and of the longest one with neither windows nor facts.
 pub const LOG: usize = 1255;
+
+pub const WINDOW: usize = 15;
+
+pub const BOOK: usize = 3655;
 
 pub const WITHOUT_FACTS: usize = 1639;

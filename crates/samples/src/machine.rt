@@ -1,4 +1,6 @@
 // The state of the pass over a book's bytes.
+use crate::windows;
+use crate::windows::Window;
 
 // What the next byte is taken for.
 pub const FIRST_LETTER: u8 = 0;
@@ -31,6 +33,9 @@ pub struct Machine {
     pub rules_begun: u8,
     pub last: u8,
     pub last_fact: u8,
+    // The last window, and the number of the rule that it belongs to, counted from 1.
+    pub window: Window,
+    pub windows_begun: u8,
     // The last cost with its place among the costs, counted from 1, and the high byte of the next.
     pub cost: u16,
     pub slot: u8,
@@ -59,6 +64,8 @@ pub fn start() -> Machine {
         rules_begun: 0,
         last: 0,
         last_fact: 0,
+        window: windows::none(),
+        windows_begun: 0,
         cost: 0,
         slot: 0,
         high: 0,

@@ -4,6 +4,8 @@ use crate::fields;
 use crate::limits;
 use crate::machine;
 use crate::machine::Machine;
+use crate::windows;
+use crate::windows::Window;
 
 // A book as reckoned: number 0 where it is accepted, all but number and place 0 where it is not.
 // The costs stand in one row: yes and no of choice 1, yes and no of choice 2, ..
@@ -18,6 +20,7 @@ pub struct Reckoned {
     pub facts_yes: u64,
     pub facts_no: u64,
     pub costs: [u16; limits::COSTS],
+    pub windows: [Window; limits::MASKS],
 }
 
 // The first letter of the mark that is due; after the rules E will do for F.
@@ -37,16 +40,28 @@ fn second_of(first: u8) -> u8 {
         b'H' => b'D',
         b'C' => b'S',
         b'R' => b'L',
+        b'W' => b'N',
         b'F' => b'A',
         b'E' => b'N',
         _ => 0,
     }
 }
 
+// Whether a window may stand here: one after each rule, and none after a fact.
+fn may_have_window(m: Machine) -> bool {
+    if m.last_fact != 0 {
+        return false;
+    }
+    m.windows_begun < m.rules_begun
+}
+
 // Whether the mark of these two letters may stand here.
 fn may_stand(m: Machine, first: u8, second: u8) -> bool {
     if second != second_of(first) {
         return false;
+    }
+    if first == b'W' {
+        return may_have_window(m);
     }
     let wanted = due(m);
     if wanted == b'F' {
@@ -76,6 +91,10 @@ fn mark_ends(mut m: Machine, second: u8) -> Machine {
             m.left = 5;
         }
         b'R' => m.state = machine::COUNT,
+        b'W' => {
+            m.windows_begun = m.rules_begun;
+            m.left = 13;
+        }
         b'F' => m.left = 1,
         _ => m.state = machine::NOTHING,
     }
@@ -144,7 +163,17 @@ fn keep_cost(costs: &mut [u16; limits::COSTS], nth: u8, cost: u16) {
     }
 }
 
+// The place of the entry that is the `nth`, counted from 1, or one behind them all.
+fn place_of(nth: u8) -> usize {
+    if nth == 0 {
+        limits::MASKS
+    } else {
+        (nth - 1) as usize
+    }
+}
+
 fn refused(number: u8, place: usize) -> Reckoned {
+    let none = windows::none();
     Reckoned {
         number,
         place,
@@ -156,6 +185,7 @@ fn refused(number: u8, place: usize) -> Reckoned {
         facts_yes: 0,
         facts_no: 0,
         costs: [0; limits::COSTS],
+        windows: [none; limits::MASKS],
     }
 }
 
@@ -165,12 +195,19 @@ pub fn reckon(s: &[u8]) -> Reckoned {
     let mut yes = [0; limits::MASKS];
     let mut no = [0; limits::MASKS];
     let mut costs = [0; limits::COSTS];
+    let none = windows::none();
+    let mut windows = [none; limits::MASKS];
     for i in 0..s.len() {
         if m.number == 0 {
             m = step(m, s[i]);
             keep(&mut yes, m.rules_begun, m.yes);
             keep(&mut no, m.rules_begun, m.no);
             keep_cost(&mut costs, m.slot, m.cost);
+            let place = place_of(m.windows_begun);
+            let window = m.window;
+            if place < limits::MASKS {
+                windows[place] = window;
+            }
         }
     }
     m = bytes_end(m);
@@ -188,6 +225,7 @@ pub fn reckon(s: &[u8]) -> Reckoned {
         facts_yes: m.facts_yes,
         facts_no: m.facts_no,
         costs,
+        windows,
     }
 }
 
@@ -205,6 +243,27 @@ pub fn has_empty_rule(b: Reckoned) -> bool {
     let rules = b.rules;
     for i in 0..rules {
         if is_empty_rule(b, i) {
+            return true;
+        }
+    }
+    false
+}
+
+// Whether the rule at a place has a window.
+fn is_windowed(b: Reckoned, i: usize) -> bool {
+    if i < limits::MASKS {
+        let window = b.windows[i];
+        window.weekdays != 0
+    } else {
+        false
+    }
+}
+
+// Whether a book holds a window.
+pub fn has_window(b: Reckoned) -> bool {
+    let rules = b.rules;
+    for i in 0..rules {
+        if is_windowed(b, i) {
             return true;
         }
     }

@@ -11,7 +11,7 @@ mod yardstick;
 
 use std::hint::black_box;
 use std::path::Path;
-use why_engine::{Literals, Step, MAX_LOG, MAX_RULES, MAX_WITHOUT_FACTS};
+use why_engine::{Date, Literals, Moment, Step, Window, MAX_LOG, MAX_RULES, MAX_WITHOUT_FACTS};
 
 const ROUNDS: usize = 15;
 const QUICK_ROUNDS: usize = 2;
@@ -22,9 +22,15 @@ const ROUND_TIME: f64 = 1e-3;
 const SLOW_ROUNDS: usize = 3;
 /// A log that takes longer, in seconds, has a line of its own.
 const LONG_LOG: f64 = 5e-3;
+/// When the books are asked for. Their rules are in force whenever that is.
+const NOW: Moment = Moment { date: date(7, 9), minute: 640 };
+
+const fn date(month: u8, day: u8) -> Date {
+    Date { year: 2026, month, day }
+}
 
 /// A book, its clauses as a DIMACS text, its V and facts, the steps of its log, and the times of
-/// each call on it.
+/// each call on it that is timed.
 struct Case {
     name: String,
     book: Vec<u8>,
@@ -33,6 +39,18 @@ struct Case {
     facts: Literals,
     steps: u8,
     times: [Times; CALLS.len()],
+}
+
+impl Case {
+    fn with_windows(&self) -> Case {
+        Case {
+            name: self.name.clone(),
+            book: with_windows(&self.book),
+            text: self.text.clone(),
+            times: [Times::NONE; CALLS.len()],
+            ..*self
+        }
+    }
 }
 
 /// The best times of a call on one book, in seconds.
@@ -78,11 +96,15 @@ const CALLS: [Call; 7] = [
     call!(read_book, |case, _| &case.book),
     call!(read_costs, |case, _| &case.book),
     call!(read_dimacs, |case, buffer| &case.text, buffer),
-    call!(model, |case, _| &case.book),
-    call!(consequence, |case, _| &case.book),
-    call!(next_step, |case, _| &case.book, case.facts),
-    call!(log, |case, buffer| &case.book, buffer),
+    call!(model, |case, _| &case.book, NOW),
+    call!(consequence, |case, _| &case.book, NOW),
+    call!(next_step, |case, _| &case.book, NOW, case.facts),
+    call!(log, |case, buffer| &case.book, NOW, buffer),
 ];
+const ALL_CALLS: &[usize] = &[0, 1, 2, 3, 4, 5, 6];
+/// What is timed where a window comes after each rule: the readers of a book, the first model and
+/// the consequence. The others search as long as they do without windows.
+const CALLS_WITH_WINDOWS: &[usize] = &[0, 1, 3, 4];
 
 fn main() {
     let mut cases = read_cases();
@@ -90,16 +112,21 @@ fn main() {
         case.steps = compare_answers(case);
     }
     println!("All answers of archive and yardstick are equal.");
+    let mut windowed: Vec<Case> = cases.iter().map(Case::with_windows).collect();
     let quick = std::env::args().any(|argument| argument == "quick");
     let rounds = if quick { QUICK_ROUNDS } else { ROUNDS };
-    measure(&mut cases, rounds);
+    for round in 0..rounds {
+        measure(&mut cases, ALL_CALLS, round);
+        measure(&mut windowed, CALLS_WITH_WINDOWS, round);
+    }
     let (slow, limit) = (rounds.div_ceil(SLOW_ROUNDS), shown(ROUND_TIME));
     println!("Processor time, best of {rounds} rounds, or of {slow} where a call takes over {limit}.");
     let all: Vec<&Case> = cases.iter().collect();
     let (narrow, wide) = all.iter().partition(|case| case.variables <= 32);
-    print_calls("All", all);
-    print_calls("V 32, U 20", narrow);
-    print_calls("V 48, U 32", wide);
+    print_calls("All", all, ALL_CALLS);
+    print_calls("V 32, U 20", narrow, ALL_CALLS);
+    print_calls("V 48, U 32", wide, ALL_CALLS);
+    print_calls("All, with a window after each rule", windowed.iter().collect(), CALLS_WITH_WINDOWS);
     print_long_logs(&cases);
 }
 
@@ -145,27 +172,95 @@ fn dimacs_text(book: &why_engine::Book) -> Vec<u8> {
 /// Asserts that both give equal answers: each call, each byte of the buffers, each step on the way
 /// of the log. Answers the number of steps.
 fn compare_answers(case: &Case) -> u8 {
-    let book = &case.book;
-    compare_readers(book, &case.text);
-    compare_refusals(book, &case.text);
-    assert_eq!(why_engine::model(book), yardstick::model(book));
-    assert_eq!(why_engine::consequence(book), yardstick::consequence(book));
+    compare_readers(&case.book, &case.text);
+    compare_refusals(&case.book, &case.text);
+    compare_windows(case);
+    compare_steps(&case.book, case.facts)
+}
+
+fn compare_steps(book: &[u8], facts: Literals) -> u8 {
+    compare_models(book, NOW);
     let (mut one, mut other) = ([0xee; MAX_LOG], [0xee; MAX_LOG]);
-    let log = why_engine::log(book, &mut one);
-    assert_eq!(log, yardstick::log(book, &mut other));
+    let log = why_engine::log(book, NOW, &mut one);
+    assert_eq!(log, yardstick::log(book, NOW, &mut other));
     assert_eq!(one, other);
-    assert_eq!(why_engine::log(book, &mut []), yardstick::log(book, &mut []));
     let none = Literals { yes: 0, no: 0 };
-    assert_eq!(why_engine::next_step(book, none), yardstick::next_step(book, none));
-    let mut known = case.facts;
+    assert_eq!(why_engine::next_step(book, NOW, none), yardstick::next_step(book, NOW, none));
+    let mut known = facts;
     loop {
-        let step = why_engine::next_step(book, known);
-        assert_eq!(step, yardstick::next_step(book, known));
+        let step = why_engine::next_step(book, NOW, known);
+        assert_eq!(step, yardstick::next_step(book, NOW, known));
         let Ok(Step::Next { new, .. }) = step else {
             return log.expect("a log").steps;
         };
         known = Literals { yes: known.yes | new.yes, no: known.no | new.no };
     }
+}
+
+/// The calls that search for models only.
+fn compare_models(book: &[u8], at: Moment) {
+    assert_eq!(why_engine::model(book, at), yardstick::model(book, at));
+    assert_eq!(why_engine::consequence(book, at), yardstick::consequence(book, at));
+    assert_eq!(why_engine::log(book, at, &mut []), yardstick::log(book, at, &mut []));
+}
+
+/// The same book with a window after each rule: now, when all rules are in force, at moments when
+/// some are not, and at such as there are none.
+fn compare_windows(case: &Case) {
+    let book = with_windows(&case.book);
+    compare_readers(&book, &case.text);
+    compare_refusals(&book, &case.text);
+    compare_steps(&book, case.facts);
+    for date in [(6, 10), (7, 8), (7, 10), (7, 12), (8, 6), (8, 9), (13, 9), (6, 31)].map(|(m, d)| date(m, d)) {
+        compare_models(&book, Moment { date, ..NOW });
+    }
+    for minute in [638, 639, 641, 642, 1440] {
+        compare_models(&book, Moment { minute, ..NOW });
+        compare_models(&book[1..], Moment { minute, ..NOW });
+    }
+}
+
+/// The window of a rule. Each is open now, a Thursday, and some for a day or a minute only.
+fn window(rule: usize) -> Window {
+    let of_two = |every| usize::from(rule % every == 0);
+    Window {
+        first_day: [date(6, 10), date(7, 9)][of_two(2)],
+        end_day: [date(8, 9), date(7, 10)][of_two(3)],
+        weekdays: [127, 0b1001000][of_two(5)],
+        first_minute: [639, 640][of_two(7)],
+        end_minute: [642, 641][of_two(11)],
+    }
+}
+
+fn with_windows(book: &[u8]) -> Vec<u8> {
+    let (mut rest, mut wider, mut rules) = (book, Vec::new(), 0);
+    while let Some(&letter) = rest.first() {
+        let size = match letter {
+            b'H' => 5,
+            b'C' => 7,
+            b'R' => 3 + usize::from(rest[2]),
+            b'F' => 3,
+            _ => 2,
+        };
+        wider.extend_from_slice(&rest[..size]);
+        rest = &rest[size..];
+        if letter == b'R' {
+            put_window(&mut wider, window(rules));
+            rules += 1;
+        }
+    }
+    wider
+}
+
+fn put_window(bytes: &mut Vec<u8>, window: Window) {
+    bytes.extend(b"WN");
+    for date in [window.first_day, window.end_day] {
+        bytes.extend(date.year.to_be_bytes());
+        bytes.extend([date.month, date.day]);
+    }
+    bytes.push(window.weekdays);
+    bytes.extend(window.first_minute.to_be_bytes());
+    bytes.extend(window.end_minute.to_be_bytes());
 }
 
 fn compare_readers(book: &[u8], text: &[u8]) {
@@ -197,25 +292,27 @@ fn as_masks(book: yardstick::Book) -> why_engine::Book {
     for (i, clause) in book.clauses.iter().enumerate() {
         (rules_yes[i], rules_no[i]) = (clause.yes, clause.no);
     }
+    let mut windows = [None; MAX_RULES];
+    windows[..book.windows.len()].copy_from_slice(&book.windows);
     why_engine::Book {
         variables: book.variables.into(),
         choices: book.choices.count_ones().into(),
         rules: book.clauses.len() as u64,
         rules_yes,
         rules_no,
+        windows,
         facts: book.facts,
     }
 }
 
-fn measure(cases: &mut [Case], rounds: usize) {
+/// One round of these calls on every book.
+fn measure(cases: &mut [Case], calls: &[usize], round: usize) {
     let mut buffer = [0; MAX_WITHOUT_FACTS];
-    for round in 0..rounds {
-        for case in &mut *cases {
-            for (i, call) in CALLS.iter().enumerate() {
-                let slow = case.times[i].archive > ROUND_TIME;
-                if !slow || round % SLOW_ROUNDS == 0 {
-                    case.times[i] = measure_round(call, case, case.times[i], round, &mut buffer);
-                }
+    for case in cases {
+        for &i in calls {
+            let slow = case.times[i].archive > ROUND_TIME;
+            if !slow || round % SLOW_ROUNDS == 0 {
+                case.times[i] = measure_round(&CALLS[i], case, case.times[i], round, &mut buffer);
             }
         }
     }
@@ -270,10 +367,10 @@ fn shown(seconds: f64) -> String {
 
 /// One line for each call: the sums over the books, the geometric mean of their ratios, and the
 /// book on which the archive takes longest.
-fn print_calls(title: &str, cases: Vec<&Case>) {
+fn print_calls(title: &str, cases: Vec<&Case>, calls: &[usize]) {
     println!("\n{title}: {} books", cases.len());
     println!("call             archive    yardstick  ratio  mean ratio  slowest book");
-    for (i, call) in CALLS.iter().enumerate() {
+    for &i in calls {
         let times: Vec<Times> = cases.iter().map(|case| case.times[i]).collect();
         let archive: f64 = times.iter().map(|times| times.archive).sum();
         let yardstick: f64 = times.iter().map(|times| times.yardstick).sum();
@@ -283,7 +380,7 @@ fn print_calls(title: &str, cases: Vec<&Case>) {
         let slowest = cases.iter().max_by(longest).expect("a book");
         println!(
             "{:12} {:>11}  {:>11}  {:5.2}  {mean:10.2}  {}, {}, ratio {:.2}",
-            call.name,
+            CALLS[i].name,
             shown(archive),
             shown(yardstick),
             archive / yardstick,

@@ -11,6 +11,7 @@ extern "C" {
         rules: *mut u64,
         rules_yes: *mut [u64; MAX_RULES],
         rules_no: *mut [u64; MAX_RULES],
+        windows: *mut [[u16; 9]; MAX_RULES],
         facts_yes: *mut u64,
         facts_no: *mut u64,
     ) -> u64;
@@ -25,13 +26,34 @@ extern "C" {
         size: *mut u64,
     ) -> u64;
 
-    pub fn why_model(book: *const u8, book_length: usize, model: *mut u64) -> u64;
+    pub fn why_model(
+        book: *const u8,
+        book_length: usize,
+        year: u16,
+        month: u8,
+        day: u8,
+        minute: u16,
+        model: *mut u64,
+    ) -> u64;
 
-    pub fn why_consequence(book: *const u8, book_length: usize, yes: *mut u64, no: *mut u64) -> u64;
+    pub fn why_consequence(
+        book: *const u8,
+        book_length: usize,
+        year: u16,
+        month: u8,
+        day: u8,
+        minute: u16,
+        yes: *mut u64,
+        no: *mut u64,
+    ) -> u64;
 
     pub fn why_next_step(
         book: *const u8,
         book_length: usize,
+        year: u16,
+        month: u8,
+        day: u8,
+        minute: u16,
         known_yes: u64,
         known_no: u64,
         goal: *mut i64,
@@ -45,6 +67,10 @@ extern "C" {
     pub fn why_log(
         book: *const u8,
         book_length: usize,
+        year: u16,
+        month: u8,
+        day: u8,
+        minute: u16,
         buffer: *mut u8,
         buffer_length: usize,
         size: *mut u64,

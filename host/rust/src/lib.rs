@@ -14,10 +14,10 @@ pub const MAX_COST: u16 = 999;
 /// The literals of one rule, at most.
 pub const MAX_LITERALS: usize = 8;
 /// The bytes of a book, at most.
-pub const MAX_BOOK: usize = 1735;
+pub const MAX_BOOK: usize = 3655;
 /// The bytes of a log, at most: what the buffer of [`log`] must have.
 pub const MAX_LOG: usize = 1255;
-/// The bytes of a book without facts, at most: what the buffer of [`read_dimacs`] must have.
+/// The bytes of a book without facts and WN, at most: what the buffer of [`read_dimacs`] must have.
 pub const MAX_WITHOUT_FACTS: usize = 1639;
 /// The largest place that a refusal has room for.
 pub const MAX_PLACE: u64 = 0xffffffffffffff;
@@ -40,7 +40,7 @@ pub mod number {
     pub const BYTE_AFTER_END: u8 = 7;
     /// The lent buffer is too short.
     pub const SHORT_BUFFER: u8 = 8;
-    /// No filling obeys the rules and the given facts.
+    /// No filling obeys the rules in force and the given facts.
     pub const NO_MODEL: u8 = 9;
     /// The known set is not between the given facts and the consequence.
     pub const WRONG_KNOWN_SET: u8 = 10;
@@ -48,6 +48,9 @@ pub mod number {
     pub const NOT_DIMACS: u8 = 12;
     /// DIMACS: V or R over its limit, or a clause with over 8 literals.
     pub const TOO_LARGE_DIMACS: u8 = 13;
+    /// No such date or minute, of the moment (then at 0) or in WN; in WN also an end that is not after its start, an end minute over 1440, or weekdays
+    /// that are 0 or over 127.
+    pub const WRONG_TIME: u8 = 14;
 }
 
 /// A refusal: its number, one of [`number`], and its place.
@@ -64,7 +67,34 @@ pub struct Literals {
     pub no: u64,
 }
 
-/// A book as it is read. The literals of rule i are `rules_yes[i]` and `rules_no[i]`; after the last rule both are 0.
+/// A day of the calendar: the year from 2000 to 2099, the month and the day counted from 1.
+#[derive(Clone, Copy, Debug, PartialEq, Eq)]
+pub struct Date {
+    pub year: u16,
+    pub month: u8,
+    pub day: u8,
+}
+
+/// The moment that a call is to answer for: a day and its minute, 0 to 1439, in the shop's own time. The engine has no clock.
+#[derive(Clone, Copy, Debug, PartialEq, Eq)]
+pub struct Moment {
+    pub date: Date,
+    pub minute: u16,
+}
+
+/// When a rule with a WN record is in force: from the first day on and before the end day, on the weekdays whose bits are set (the lowest is Monday's),
+/// from the first minute of the day on and before the end minute.
+#[derive(Clone, Copy, Debug, PartialEq, Eq)]
+pub struct Window {
+    pub first_day: Date,
+    pub end_day: Date,
+    pub weekdays: u8,
+    pub first_minute: u16,
+    pub end_minute: u16,
+}
+
+/// A book as it is read, with all rules, whenever they are in force. The literals of rule i are `rules_yes[i]` and `rules_no[i]`; after the last rule
+/// both are 0. A rule without a window is always in force.
 #[derive(Clone, Debug, PartialEq, Eq)]
 pub struct Book {
     pub variables: u64,
@@ -72,6 +102,7 @@ pub struct Book {
     pub rules: u64,
     pub rules_yes: [u64; MAX_RULES],
     pub rules_no: [u64; MAX_RULES],
+    pub windows: [Option<Window>; MAX_RULES],
     pub facts: Literals,
 }
 
@@ -108,10 +139,24 @@ fn answered<T>(returned: u64, done: impl FnOnce() -> T) -> Result<T, Refusal> {
     }
 }
 
-/// The book as it is read. Refuses with 1 to 7.
+/// The window that is meant by nine fields in the order of the record. No window has no weekday.
+fn window(fields: [u16; 9]) -> Option<Window> {
+    let [year, month, day, end_year, end_month, end_day, weekdays, first_minute, end_minute] = fields;
+    let date = |year, month, day| Date { year, month: month as u8, day: day as u8 };
+    (weekdays != 0).then(|| Window {
+        first_day: date(year, month, day),
+        end_day: date(end_year, end_month, end_day),
+        weekdays: weekdays as u8,
+        first_minute,
+        end_minute,
+    })
+}
+
+/// The book as it is read. Refuses with 1 to 7, 14 in WN.
 pub fn read_book(book: &[u8]) -> Result<Book, Refusal> {
     let (mut variables, mut choices, mut rules) = (0, 0, 0);
     let (mut rules_yes, mut rules_no) = ([0; MAX_RULES], [0; MAX_RULES]);
+    let mut windows = [[0; 9]; MAX_RULES];
     let mut facts = Literals { yes: 0, no: 0 };
     let returned = unsafe {
         calls::why_read_book(
@@ -122,14 +167,15 @@ pub fn read_book(book: &[u8]) -> Result<Book, Refusal> {
             &mut rules,
             &mut rules_yes,
             &mut rules_no,
+            &mut windows,
             &mut facts.yes,
             &mut facts.no,
         )
     };
-    answered(returned, || Book { variables, choices, rules, rules_yes, rules_no, facts })
+    answered(returned, || Book { variables, choices, rules, rules_yes, rules_no, windows: windows.map(window), facts })
 }
 
-/// The costs of the book. Refuses with 1 to 7.
+/// The costs of the book. Refuses with 1 to 7, 14 in WN.
 pub fn read_costs(book: &[u8]) -> Result<Costs, Refusal> {
     let mut costs = [[0; 2]; MAX_CHOICES];
     let returned = unsafe { calls::why_read_costs(book.as_ptr(), book.len(), &mut costs) };
@@ -144,22 +190,27 @@ pub fn read_dimacs(text: &[u8], buffer: &mut [u8]) -> Result<usize, Refusal> {
     answered(returned, || size as usize)
 }
 
-/// The first model, as the mask of its yes. Refuses with 1 to 7, 9.
-pub fn model(book: &[u8]) -> Result<u64, Refusal> {
+/// The first model of the rules in force at the moment, as the mask of its yes. Refuses with 14 at 0, 1 to 7, 14 in WN, 9.
+pub fn model(book: &[u8], at: Moment) -> Result<u64, Refusal> {
+    let Moment { date: Date { year, month, day }, minute } = at;
     let mut model = 0;
-    let returned = unsafe { calls::why_model(book.as_ptr(), book.len(), &mut model) };
+    let returned = unsafe { calls::why_model(book.as_ptr(), book.len(), year, month, day, minute, &mut model) };
     answered(returned, || model)
 }
 
-/// What is filled in. Refuses with 1 to 7, 9.
-pub fn consequence(book: &[u8]) -> Result<Literals, Refusal> {
+/// What is filled in by the rules in force at the moment. Refuses with 14 at 0, 1 to 7, 14 in WN, 9.
+pub fn consequence(book: &[u8], at: Moment) -> Result<Literals, Refusal> {
+    let Moment { date: Date { year, month, day }, minute } = at;
     let mut forced = Literals { yes: 0, no: 0 };
-    let returned = unsafe { calls::why_consequence(book.as_ptr(), book.len(), &mut forced.yes, &mut forced.no) };
+    let returned = unsafe {
+        calls::why_consequence(book.as_ptr(), book.len(), year, month, day, minute, &mut forced.yes, &mut forced.no)
+    };
     answered(returned, || forced)
 }
 
-/// The cheapest next step from a known set. Refuses with 1 to 7, 9, 10.
-pub fn next_step(book: &[u8], known: Literals) -> Result<Step, Refusal> {
+/// The cheapest next step from a known set, by the rules in force at the moment. Refuses with 14 at 0, 1 to 7, 14 in WN, 9, 10.
+pub fn next_step(book: &[u8], at: Moment, known: Literals) -> Result<Step, Refusal> {
+    let Moment { date: Date { year, month, day }, minute } = at;
     let (mut goal, mut cost) = (0, 0);
     let mut reasons = Literals { yes: 0, no: 0 };
     let mut new = Literals { yes: 0, no: 0 };
@@ -167,6 +218,10 @@ pub fn next_step(book: &[u8], known: Literals) -> Result<Step, Refusal> {
         calls::why_next_step(
             book.as_ptr(),
             book.len(),
+            year,
+            month,
+            day,
+            minute,
             known.yes,
             known.no,
             &mut goal,
@@ -183,11 +238,24 @@ pub fn next_step(book: &[u8], known: Literals) -> Result<Step, Refusal> {
     })
 }
 
-/// Writes the log at the front of the buffer. Refuses with 1 to 7, 8, 9.
-pub fn log(book: &[u8], buffer: &mut [u8]) -> Result<Log, Refusal> {
+/// Writes the log of the rules in force at the moment, at the front of the buffer. Refuses with 14 at 0, 1 to 7, 14 in WN, 8, 9.
+pub fn log(book: &[u8], at: Moment, buffer: &mut [u8]) -> Result<Log, Refusal> {
+    let Moment { date: Date { year, month, day }, minute } = at;
     let (mut size, mut steps, mut total) = (0, 0, 0);
     let returned = unsafe {
-        calls::why_log(book.as_ptr(), book.len(), buffer.as_mut_ptr(), buffer.len(), &mut size, &mut steps, &mut total)
+        calls::why_log(
+            book.as_ptr(),
+            book.len(),
+            year,
+            month,
+            day,
+            minute,
+            buffer.as_mut_ptr(),
+            buffer.len(),
+            &mut size,
+            &mut steps,
+            &mut total,
+        )
     };
     answered(returned, || Log { size: size as usize, steps: steps as u8, total: total as u32 })
 }

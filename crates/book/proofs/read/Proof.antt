@@ -3,10 +3,10 @@ use mathlib.Core.Path.{_∙_}
 use native.Mathlib.Omega.{arith}
 use borrow.Author.Needs.{needs}
 use denote.Ref.{now}
-use Rattle.records.specs.Format.{readBook, costAt}
+use Rattle.records.specs.Format.{readBook, costFrom}
 use Rattle.book.specs.Answer.{bookAnswer}
 use Rattle.book.proofs.BookLaws.{place-refused, place-at, costs-beside}
-use Rattle.book.proofs.CostLaws.{GoodCost, cost-whole}
+use Rattle.book.proofs.CostLaws.{GoodCost, cost-read}
 use Rattle.book.proofs.HeaderLaws.{HeaderSaid, header-fails, header-says}
 use Rattle.book.proofs.ValueLaws.{many-good}
 use Rattle.book.proofs.read.Statement.{statement}
@@ -22,7 +22,7 @@ read-from-rules-requires : tie.Need-read-from-rules-requires
 read-from-rules-requires c κs =
     let h = header (c .before .before .before .before) .whole in
     let costs = place-at _ (c .before .before .before .check-costs .ensures) (c .before .place .given .1) in
-    let w = many-good costAt _ GoodCost (λ i t a len e. cost-whole i t e .1) _ _ _ (h .within) (costs .1) .within in
+    let w = many-good (costFrom _) _ GoodCost (λ i place c next k e. cost-read _ i place k e .1) _ _ _ (h .within) (costs .1) .within in
     (omega (arith, h .good .few-variables), (omega (arith, h .good .few-choices), (h .good .few-rules, w)))
 
 pub read-spec : {M : Type 1} → statement M

@@ -2,7 +2,7 @@
 use mathlib.Core.Path.{refl, ap, _∙_}
 use borrow.Author.Needs.{needs}
 use denote.Ref.{now}
-use Rattle.records.specs.Format.{readBook, many, costAt}
+use Rattle.records.specs.Format.{readBook, many, costFrom}
 use Rattle.book.specs.Answer.{tableAnswer, table, padded}
 use Rattle.book.proofs.PartLaws.{BookSaid, book-says, book-refused, parts}
 use Rattle.book.proofs.read_costs.Statement.{statement}
@@ -25,7 +25,7 @@ returns-2 : tie.Need-returns-2
 unfolding tableAnswer
 returns-2 c =
     let r = said (c .before) in
-    let costs = ap (λ k. many costAt (now (c .before .before .before .before .before .args .s)) (k .choices) 1 5) (r .keeps) ∙ parts _ (r .said) .costs-read in
+    let costs = ap (λ k. many (costFrom (now (c .before .before .before .before .before .args .s))) (k .choices) 1 5) (r .keeps) ∙ parts _ (r .said) .costs-read in
     rw (r .said) (c .cost-table .ensures ∙ ap (tableAnswer (λ cs. cs)) costs)
 
 pub read-costs-spec : {M : Type 1} → statement M

@@ -7,8 +7,8 @@ use Rattle.c_interface.proofs.why_model.Tie as tie
 
 pub why-model-spec : {M : Type 1} → statement M
 why-model-spec =
-    tie.close (tie.spec (λ c κs. search needs) (λ c. search needs) (λ c κs. search needs) (λ c. search needs)
+    tie.close (tie.spec (λ c κs. search needs) (λ c κs. search needs) (λ c. search needs) (λ c κs. search needs) (λ c. search needs)
     (λ c.
-    let m = c .before .before .before .before .model .ensures in
+    let m = rw (c .before .before .before .before .before .moment-of .ensures) at (c .before .before .before .before .model .ensures) in
     seen-refused m (m .said) (c .before .before .number .given .1) refl (c .refusal .ensures))
-    (λ c. let m = c .before .before .before .model .ensures in seen-done m (m .said) (c .before .m .given .1) refl))
+    (λ c. let m = rw (c .before .before .before .before .moment-of .ensures) at (c .before .before .before .model .ensures) in seen-done m (m .said) (c .before .m .given .1) refl))

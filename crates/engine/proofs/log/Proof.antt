@@ -9,7 +9,7 @@ use Rattle.engine.proofs.log.Tie as tie
 pub log-spec : {M : Type 1} → statement M
 log-spec =
     tie.close (tie.spec (λ c κs. search needs) (λ c. search needs) (λ c. search needs)
-    (λ c. log-short (taken (c .before .before .before .read .ensures) (c .before .enum-told .given .1)) (c .if1 .taken) refl) (λ c κs. search needs)
-    (λ c κs. taken-fits _ (c .before .before .before .before .before .read .ensures) (c .before .before .before .enum-told .given .1))
+    (λ c. log-short (taken (c .before .before .before .read-at .ensures) (c .before .enum-told .given .1)) (c .if1 .taken) refl) (λ c κs. search needs)
+    (λ c κs. taken-fits _ _ (c .before .before .before .before .before .read-at .ensures) (c .before .before .before .enum-told .given .1))
     (λ c κs. search (needs, taken, taken-loggable))
     (λ c. search log-refused) (λ c. search needs) (λ c. search (taken, log-taken)))

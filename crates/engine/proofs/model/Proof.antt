@@ -7,6 +7,6 @@ use Rattle.engine.proofs.model.Tie as tie
 
 pub model-spec : {M : Type 1} → statement M
 model-spec = tie.close (tie.spec (λ c κs. search needs) (λ c. search needs) (λ c. search needs)
-    (λ c κs. taken-fits _ (c .before .before .before .read .ensures) (c .before .enum-told .given .1))
-    (λ c κs. taken-searchable (taken (c .before .before .before .before .read .ensures) (c .before .before .enum-told .given .1)) (c .of-book .ensures))
+    (λ c κs. taken-fits _ _ (c .before .before .before .read-at .ensures) (c .before .enum-told .given .1))
+    (λ c κs. taken-searchable (taken (c .before .before .before .before .read-at .ensures) (c .before .before .enum-told .given .1)) (c .of-book .ensures))
     (λ c. search model-refused) (λ c. search (taken, model-taken)))

@@ -8,6 +8,6 @@ use Rattle.engine.proofs.next_step.Tie as tie
 pub next-step-spec : {M : Type 1} → statement M
 next-step-spec =
     tie.close (tie.spec (λ c κs. search needs) (λ c. search needs) (λ c. search needs) (λ c κs. search needs)
-    (λ c κs. taken-fits _ (c .before .before .before .before .read .ensures) (c .before .before .enum-told .given .1))
+    (λ c κs. taken-fits _ _ (c .before .before .before .before .read-at .ensures) (c .before .before .enum-told .given .1))
     (λ c κs. search (taken, taken-steppable))
     (λ c. search step-refused) (λ c. search (taken, step-taken)))

@@ -6,5 +6,6 @@ use Rattle.why_books.proofs.refused_books.Tie as tie
 
 pub refused-books-spec : {M : Type 1} → statement M
 refused-books-spec =
-    tie.close (tie.spec (λ _ _. Unit {0}) (λ _ number. 8 - number) (λ c. search needs) (λ c κs. search needs)
-    (λ c. search needs) (λ c. search needs) (λ c. search needs) (λ c κs. search needs) (λ c. search needs))
+    tie.close (tie.spec (λ _ _ _. Unit {0}) (λ _ _ number. 8 - number) (λ c. search needs) (λ c κs. search needs)
+    (λ c. search needs) (λ c. search needs) (λ c. search needs) (λ c κs. search needs) (λ c. search needs) (λ c κs. search needs)
+    (λ c. search needs))

@@ -1,14 +1,16 @@
 //! The book reader: the records in a row, each judged by its mark, its count, the presence of its
 //! fields, and their values.
-use super::{refusal, with, NO_LITERALS};
-use why_engine::{Costs, Literals, Refusal};
+use super::{dates, refusal, with, NO_LITERALS};
+use why_engine::{Costs, Date, Literals, Refusal, Window};
 use why_engine::{MAX_CHOICES, MAX_COST, MAX_LITERALS, MAX_RULES, MAX_VARIABLES};
 
-/// A book with its costs. A rule is a clause, the set of its literals; `choices` is a mask.
+/// A book with its costs. A rule is a clause, the set of its literals, with a window or none;
+/// `choices` is a mask.
 pub struct Book {
     pub variables: u8,
     pub choices: u64,
     pub clauses: Vec<Literals>,
+    pub windows: Vec<Option<Window>>,
     pub facts: Literals,
     pub costs: Costs,
 }
@@ -85,6 +87,28 @@ impl<'a> Reader<'a> {
         Ok(clause)
     }
 
+    /// The window of the rule before, if a WN record is next.
+    fn window(&mut self) -> Result<Option<Window>, Refusal> {
+        if !self.rest.starts_with(b"WN") {
+            return Ok(None);
+        }
+        let record = self.open(b"WN", 15)?;
+        let two_bytes = |at| u16::from_be_bytes([record[at], record[at + 1]]);
+        let date = |at| Date { year: two_bytes(at), month: record[at + 2], day: record[at + 3] };
+        let window = Window {
+            first_day: date(2),
+            end_day: date(6),
+            weekdays: record[10],
+            first_minute: two_bytes(11),
+            end_minute: two_bytes(13),
+        };
+        if !dates::is_window(window) {
+            return self.refuse(14);
+        }
+        self.skip(15);
+        Ok(Some(window))
+    }
+
     /// The facts, and EN.
     fn facts(&mut self, choices: u8) -> Result<Literals, Refusal> {
         let (mut facts, mut last) = (NO_LITERALS, 0);
@@ -118,13 +142,15 @@ pub fn read_book(rest: &[u8]) -> Result<Book, Refusal> {
     let [variables, choices, rules] = reader.header()?;
     let costs = reader.costs(choices)?;
     let mut clauses = Vec::with_capacity(rules.into());
+    let mut windows = Vec::with_capacity(rules.into());
     for _ in 0..rules {
         clauses.push(reader.clause(variables)?);
+        windows.push(reader.window()?);
     }
     let facts = reader.facts(choices)?;
     if !reader.rest.is_empty() {
         return reader.refuse(7);
     }
     let choices = (1 << choices) - 1;
-    Ok(Book { variables, choices, clauses, facts, costs })
+    Ok(Book { variables, choices, clauses, windows, facts, costs })
 }

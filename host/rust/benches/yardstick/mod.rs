@@ -2,11 +2,13 @@
 //! archive. It shows what this search costs where nothing is proved of it. Of `why_engine` it uses
 //! the limits and the types of the answers only.
 mod book;
+mod dates;
 mod dimacs;
 mod models;
 mod step;
 
-use why_engine::{Costs, Literals, Log, Refusal, Step, MAX_LOG};
+use dates::Now;
+use why_engine::{Costs, Literals, Log, Moment, Refusal, Step, MAX_LOG};
 
 pub use book::{read_book, Book};
 pub use dimacs::read_dimacs;
@@ -95,21 +97,31 @@ pub fn read_costs(bytes: &[u8]) -> Result<Costs, Refusal> {
     Ok(read_book(bytes)?.costs)
 }
 
-pub fn model(bytes: &[u8]) -> Result<u64, Refusal> {
-    let book = read_book(bytes)?;
+/// The book with the rules in force at the moment, which is judged first.
+fn book_at(bytes: &[u8], at: Moment) -> Result<Book, Refusal> {
+    let now = Now::of(at)?;
+    let mut book = read_book(bytes)?;
+    let rules = book.clauses.iter().zip(&book.windows);
+    let in_force = rules.filter(|(_, &window)| now.has_in_force(window));
+    book.clauses = in_force.map(|(&clause, _)| clause).collect();
+    Ok(book)
+}
+
+pub fn model(bytes: &[u8], at: Moment) -> Result<u64, Refusal> {
+    let book = book_at(bytes, at)?;
     models::first_model(&book.clauses, book.facts).ok_or(NO_MODEL)
 }
 
-pub fn consequence(bytes: &[u8]) -> Result<Literals, Refusal> {
-    forced(&read_book(bytes)?)
+pub fn consequence(bytes: &[u8], at: Moment) -> Result<Literals, Refusal> {
+    forced(&book_at(bytes, at)?)
 }
 
 fn forced(book: &Book) -> Result<Literals, Refusal> {
     models::consequence(&book.clauses, book.choices, book.facts).ok_or(NO_MODEL)
 }
 
-pub fn next_step(bytes: &[u8], known: Literals) -> Result<Step, Refusal> {
-    let book = read_book(bytes)?;
+pub fn next_step(bytes: &[u8], at: Moment, known: Literals) -> Result<Step, Refusal> {
+    let book = book_at(bytes, at)?;
     let consequence = forced(&book)?;
     if without(book.facts, known) != NO_LITERALS || without(known, consequence) != NO_LITERALS {
         return Err(refusal(10, 0));
@@ -117,8 +129,8 @@ pub fn next_step(bytes: &[u8], known: Literals) -> Result<Step, Refusal> {
     Ok(step::next_step(&book, consequence, known))
 }
 
-pub fn log(bytes: &[u8], buffer: &mut [u8]) -> Result<Log, Refusal> {
-    let book = read_book(bytes)?;
+pub fn log(bytes: &[u8], at: Moment, buffer: &mut [u8]) -> Result<Log, Refusal> {
+    let book = book_at(bytes, at)?;
     if buffer.len() < MAX_LOG {
         return Err(refusal(8, 0));
     }

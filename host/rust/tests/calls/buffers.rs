@@ -1,12 +1,14 @@
 //! Buffers of every length around the limits, between guards.
-use crate::compare::same;
+use crate::compare::{same, same_at};
 use crate::draw::{Draw, Order};
 use crate::guarded;
+use crate::reckoning::dates::{date, moment};
 use crate::reckoning::reader::{self, Book};
 use crate::reckoning::search::Search;
 use crate::reckoning::{self, dimacs, refusal, Reckoning, DIMACS_ROOM, LOG_ROOM};
+use why_engine::Window;
 
-/// Twelve facts, and twenty choices that each follow from another seven of them: a log of twenty steps.
+/// Twelve facts, and twenty choices that each follow from another seven of them, in July 2026 only: then a log of twenty steps.
 fn long_log() -> Order {
     let mut draw = Draw::new("long log", 0);
     let mut rules = Vec::new();
@@ -15,32 +17,43 @@ fn long_log() -> Order {
         rules.push(reasons.chain([target]).collect());
     }
     let costs = (1..=32).map(|v| [v, 33 - v]).collect();
-    Order { variables: 32, choices: 32, costs, rules, facts: (1..=12).collect() }
+    let (first_day, end_day) = (date(2026, 7, 1), date(2026, 8, 1));
+    let july = Window { first_day, end_day, weekdays: 127, first_minute: 0, end_minute: 1440 };
+    Order { variables: 32, choices: 32, costs, rules, windows: vec![Some(july); 20], facts: (1..=12).collect() }
 }
 
-fn log_of(book: &Book) -> reckoning::Log {
+fn log_of(book: &Book) -> (why_engine::Log, Vec<u8>) {
     let search = Search::new(book, 1_000_000);
     let consequence = search.forced(book.facts).unwrap().unwrap();
-    reckoning::log(book, &search, consequence).unwrap()
+    let log = reckoning::log(book, &search, consequence).unwrap();
+    (why_engine::Log { size: log.bytes.len(), steps: log.steps, total: log.total }, log.bytes)
 }
 
 #[test]
 fn log_buffers() {
     let bytes = long_log().bytes();
-    let log = log_of(&reader::read(&bytes).unwrap());
-    println!("long log: {} steps, {} bytes", log.steps, log.bytes.len());
-    assert!(log.steps >= 10);
-    let about = why_engine::Log { size: log.bytes.len(), steps: log.steps, total: log.total };
+    let book = reader::read(&bytes).unwrap();
+    let [july, august] = [moment(2026, 7, 31, 1439), moment(2026, 8, 1, 0)];
+    let [long, empty] = [july, august].map(|at| log_of(&book.in_force(at)));
+    println!("long log: {} steps, {} bytes", long.0.steps, long.1.len());
+    assert!(long.0.steps >= 10 && empty.0.steps == 0);
     let without_model = b"HD\0\0\x01RL\0EN";
     let damaged = &bytes[..bytes.len() - 1];
     let place = bytes.len() - 2;
+    let mut draw = Draw::new("log buffers", 0);
     for room in 0..=1_300 {
         let enough = room >= LOG_ROOM;
-        let served = if enough { Ok((about, log.bytes.clone())) } else { Err(refusal(8, 0)) };
-        same(guarded::log(&bytes, room), served, "log", &bytes);
+        for (at, log) in [(july, &long), (august, &empty)] {
+            let served = if enough { Ok(log.clone()) } else { Err(refusal(8, 0)) };
+            same_at(guarded::log(&bytes, at, room), served, "log", &bytes, at);
+        }
+        let (at, never) = (draw.moment(), draw.no_moment());
         let number = if enough { 9 } else { 8 };
-        same(guarded::log(without_model, room), Err(refusal(number, 0)), "log", without_model);
-        same(guarded::log(damaged, room), Err(refusal(1, place)), "log", damaged);
+        same_at(guarded::log(without_model, at, room), Err(refusal(number, 0)), "log", without_model, at);
+        same_at(guarded::log(damaged, at, room), Err(refusal(1, place)), "log", damaged, at);
+        for book in [&bytes, &without_model[..], damaged] {
+            same_at(guarded::log(book, never, room), Err(refusal(14, 0)), "log", book, never);
+        }
     }
 }
 

@@ -1,6 +1,7 @@
 //! Every call on one book against the reckoning, with a count of what was met, so that a test can show that it was not empty.
 use crate::draw::Draw;
 use crate::guarded;
+use crate::reckoning::dates::{self, place};
 use crate::reckoning::fillings::Fillings;
 use crate::reckoning::reader::{self, Book};
 use crate::reckoning::search::{propagated, Search};
@@ -8,13 +9,13 @@ use crate::reckoning::{self, bit, opposite, over, refusal, union, variables, wit
 use crate::reckoning::{Answer, Candidate, Limited, Log, Reckoning, LOG_ROOM, NO_LITERALS};
 use std::collections::BTreeMap;
 use std::fmt::Debug;
-use why_engine::{Literals, Refusal, Step};
+use why_engine::{Literals, Moment, Refusal, Step, Window};
 
 /// How often each thing was met, and each refusal by its number.
 #[derive(Default)]
 pub struct Counts {
     named: BTreeMap<&'static str, u64>,
-    refusals: [u64; 14],
+    refusals: [u64; 15],
 }
 
 impl Counts {
@@ -62,9 +63,26 @@ pub fn same<T: PartialEq + Debug>(engine: T, expected: T, what: &str, bytes: &[u
     assert!(engine == expected, "{what} of {bytes:02X?}\nengine:   {engine:?}\nexpected: {expected:?}");
 }
 
-/// One book, and where its comparison is counted.
+/// The same of a call that was handed a moment.
+pub fn same_at<T: PartialEq + Debug>(engine: T, expected: T, what: &str, bytes: &[u8], at: Moment) {
+    if engine != expected {
+        same(engine, expected, &format!("{what} at {at:?}"), bytes);
+    }
+}
+
+/// What puts a rule out of force, in the order of `dates::conditions`.
+const OUT_OF_FORCE: [&str; 5] = [
+    "out of force by the first day alone",
+    "out of force by the end day alone",
+    "out of force by the weekday alone",
+    "out of force by the first minute alone",
+    "out of force by the end minute alone",
+];
+
+/// One book at one moment that there is, and where its comparison is counted.
 pub struct Comparison<'a> {
     pub bytes: &'a [u8],
+    pub at: Moment,
     pub draw: &'a mut Draw,
     pub counts: &'a mut Counts,
     /// How far the search may go if the book is too large for all fillings.
@@ -78,15 +96,20 @@ impl Comparison<'_> {
         let expected = read.as_ref().map_err(|&refusal| refusal);
         same(guarded::read_book(self.bytes), expected.map(Book::as_read), "book", self.bytes);
         same(guarded::read_costs(self.bytes), expected.map(Book::cost_table), "costs", self.bytes);
-        let book = match read {
+        let never = self.draw.no_moment();
+        self.refused(never, refusal(14, 0));
+        let all_rules = match read {
             Ok(book) => book,
-            Err(refusal) => return self.refused(refusal),
+            Err(refusal) => return self.refused(self.at, refusal),
         };
         self.short_buffer();
+        self.count_windows(&all_rules);
+        let book = all_rules.in_force(self.at);
         let compared = match Fillings::of(&book) {
             Some(fillings) => {
                 self.counts.add("books by all fillings", 1);
                 self.count_models(&fillings);
+                self.count_changed(&all_rules, &book, &fillings);
                 self.search_agrees(&book, &fillings);
                 self.accepted(&book, &fillings)
             }
@@ -100,6 +123,52 @@ impl Comparison<'_> {
         }
     }
 
+    /// Counts why rules are in force or not, and the moments at the edges of their windows.
+    fn count_windows(&mut self, book: &Book) {
+        let windows: Vec<Window> = book.windows.iter().copied().flatten().collect();
+        self.counts.add("books with windows", (!windows.is_empty()).into());
+        self.counts.add("longest books", (self.bytes.len() == 3655).into());
+        for window in windows {
+            let met = dates::conditions(window, self.at);
+            let missed: Vec<usize> = (0..5).filter(|&i| !met[i]).collect();
+            match missed[..] {
+                [] => self.counts.add("in force in a window", 1),
+                [one] => self.counts.add(OUT_OF_FORCE[one], 1),
+                _ => {}
+            }
+            self.count_edges(window, &missed);
+        }
+    }
+
+    /// Counts moments at which an engine that is one day or one minute off would go wrong.
+    fn count_edges(&mut self, window: Window, missed: &[usize]) {
+        let [first, end, today] = [window.first_day, window.end_day, self.at.date].map(|date| place(date).unwrap());
+        let (first_minute, end_minute, minute) = (window.first_minute, window.end_minute, self.at.minute);
+        match missed {
+            [] => {
+                self.counts.add("edge: on the first day", (today == first).into());
+                self.counts.add("edge: on the last day", (today + 1 == end).into());
+                self.counts.add("edge: in the first minute", (minute == first_minute).into());
+                self.counts.add("edge: in the last minute", (minute + 1 == end_minute).into());
+            }
+            [0] => self.counts.add("edge: on the day before", (today + 1 == first).into()),
+            [1] => self.counts.add("edge: on the end day", (today == end).into()),
+            [3] => self.counts.add("edge: in the minute before", (minute + 1 == first_minute).into()),
+            [4] => self.counts.add("edge: in the end minute", (minute == end_minute).into()),
+            _ => {}
+        }
+    }
+
+    /// Counts books that would be answered otherwise if all rules were in force.
+    fn count_changed(&mut self, all_rules: &Book, book: &Book, in_force: &Fillings) {
+        if all_rules.rules.len() > book.rules.len() {
+            let Some(all) = Fillings::of(all_rules) else { return };
+            let forced = |fillings: &Fillings| fillings.forced(book.facts).unwrap();
+            self.counts
+                .add("consequences that rules out of force would change", (forced(&all) != forced(in_force)).into());
+        }
+    }
+
     /// Counts books whose first model says something about its order.
     fn count_models(&mut self, fillings: &Fillings) {
         let models = fillings.models();
@@ -110,19 +179,20 @@ impl Comparison<'_> {
     }
 
     /// A refusal that every call but the readers makes, whatever else is handed in.
-    fn refused(&mut self, refusal: Refusal) {
+    fn refused(&mut self, at: Moment, refusal: Refusal) {
         self.counts.add_refusal(refusal);
+        self.counts.add("books refused for a window", (refusal.number == 14 && refusal.place > 0).into());
         let bytes = self.bytes;
-        same(guarded::model(bytes), Err(refusal), "model", bytes);
-        same(guarded::consequence(bytes), Err(refusal), "consequence", bytes);
+        same_at(guarded::model(bytes, at), Err(refusal), "model", bytes, at);
+        same_at(guarded::consequence(bytes, at), Err(refusal), "consequence", bytes, at);
         for known in [NO_LITERALS, Literals { yes: self.draw.next(), no: self.draw.next() }] {
-            same(guarded::next_step(bytes, known), Err(refusal), "step", bytes);
+            same_at(guarded::next_step(bytes, at, known), Err(refusal), "step", bytes, at);
         }
         let short = self.draw.between(0, LOG_ROOM - 1);
         // 9 comes after 8, and only with a buffer that is long enough.
         let rooms = if refusal.number == 9 { &[LOG_ROOM][..] } else { &[LOG_ROOM, short] };
         for &room in rooms {
-            same(guarded::log(bytes, room), Err(refusal), "log", bytes);
+            same_at(guarded::log(bytes, at, room), Err(refusal), "log", bytes, at);
         }
     }
 
@@ -130,7 +200,7 @@ impl Comparison<'_> {
         let room = self.draw.between(0, LOG_ROOM - 1);
         let expected = refusal(8, 0);
         self.counts.add_refusal(expected);
-        same(guarded::log(self.bytes, room), Err(expected), "log", self.bytes);
+        same_at(guarded::log(self.bytes, self.at, room), Err(expected), "log", self.bytes, self.at);
     }
 
     /// The search is the only reckoning of large books, so it is held against the fillings on some small ones.
@@ -151,14 +221,14 @@ impl Comparison<'_> {
     }
 
     fn accepted(&mut self, book: &Book, reckoning: &dyn Reckoning) -> Limited<()> {
-        let bytes = self.bytes;
+        let (bytes, at) = (self.bytes, self.at);
         let Some(model) = reckoning.first_model()? else {
-            self.refused(refusal(9, 0));
+            self.refused(at, refusal(9, 0));
             return Ok(());
         };
-        same(guarded::model(bytes), Ok(model), "model", bytes);
+        same_at(guarded::model(bytes, at), Ok(model), "model", bytes, at);
         let consequence = reckoning.forced(book.facts)?.expect("there is a model");
-        same(guarded::consequence(bytes), Ok(consequence), "consequence", bytes);
+        same_at(guarded::consequence(bytes, at), Ok(consequence), "consequence", bytes, at);
         self.counts.add("consequences", 1);
         let log = reckoning::log(book, reckoning, consequence)?;
         self.log(&log);
@@ -170,7 +240,7 @@ impl Comparison<'_> {
                 Ok(answer) => self.step(book, consequence, &answer),
                 Err(refusal) => {
                     self.counts.add_refusal(refusal);
-                    same(guarded::next_step(bytes, known), Err(refusal), "step", bytes);
+                    same_at(guarded::next_step(bytes, at, known), Err(refusal), "step", bytes, at);
                 }
             }
         }
@@ -181,14 +251,14 @@ impl Comparison<'_> {
         let about = why_engine::Log { size: log.bytes.len(), steps: log.steps, total: log.total };
         let expected = (about, log.bytes.clone());
         let room = LOG_ROOM + self.draw.pick(&[0, 0, 0, 1, 100]);
-        same(guarded::log(self.bytes, room), Ok(expected), "log", self.bytes);
+        same_at(guarded::log(self.bytes, self.at, room), Ok(expected), "log", self.bytes, self.at);
         self.counts.add("logs", 1);
         self.counts.add("logs of three steps or more", (log.steps >= 3).into());
     }
 
     fn step(&mut self, book: &Book, consequence: Literals, answer: &Answer) {
         let Answer { known, step, rivals } = answer;
-        same(guarded::next_step(self.bytes, *known), Ok(*step), "step", self.bytes);
+        same_at(guarded::next_step(self.bytes, self.at, *known), Ok(*step), "step", self.bytes, self.at);
         let Step::Next { reasons, new, .. } = *step else {
             return self.counts.add("nothing left", 1);
         };

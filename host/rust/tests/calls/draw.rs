@@ -1,5 +1,6 @@
 //! Books and texts drawn at random, the same ones on every run.
-use why_engine::Literals;
+use crate::seasons;
+use why_engine::{Literals, Moment, Window};
 
 /// A generator of pseudo-random numbers (splitmix64).
 pub struct Draw(u64);
@@ -58,6 +59,8 @@ pub struct Order {
     pub choices: usize,
     pub costs: Vec<[u16; 2]>,
     pub rules: Vec<Vec<i8>>,
+    /// The window of each rule, if it has one; none of the rules after the last.
+    pub windows: Vec<Option<Window>>,
     pub facts: Vec<i8>,
 }
 
@@ -71,10 +74,12 @@ impl Order {
             record.extend(no.to_be_bytes());
             records.push(record);
         }
-        for rule in &self.rules {
+        for (i, rule) in self.rules.iter().enumerate() {
             let mut record = vec![b'R', b'L', rule.len() as u8];
             record.extend(rule.iter().map(|&literal| literal as u8));
             records.push(record);
+            let window = self.windows.get(i).copied().flatten();
+            records.extend(window.map(seasons::record));
         }
         records.extend(self.facts.iter().map(|&fact| vec![b'F', b'A', fact as u8]));
         records.push(b"EN".to_vec());
@@ -115,19 +120,21 @@ fn rule(draw: &mut Draw, length: usize, most_true: usize, filling: &[bool]) -> V
     chosen.iter().enumerate().map(sign).collect()
 }
 
+/// A rule of any literals.
+pub fn any_rule(draw: &mut Draw, variables: usize) -> Vec<i8> {
+    let length = if draw.chance(1) { 0 } else { draw.pick(&[1, 2, 2, 3, 3, 3, 4, 5, 8]) };
+    let signs = filling(draw, variables);
+    rule(draw, length, 8, &signs)
+}
+
 /// Few variables, rules and facts without a plan; many have no model.
 pub fn plain(draw: &mut Draw) -> Order {
     let variables = draw.between(0, 8);
     let choices = draw.between(0, variables);
-    let mut rules = Vec::new();
-    for _ in 0..draw.between(0, 2 * variables) {
-        let length = if draw.chance(1) { 0 } else { draw.pick(&[1, 2, 2, 3, 3, 3, 4, 5, 8]) };
-        let signs = filling(draw, variables);
-        rules.push(rule(draw, length, 8, &signs));
-    }
+    let rules = (0..draw.between(0, 2 * variables)).map(|_| any_rule(draw, variables)).collect();
     let signs = filling(draw, variables);
     let facts = facts(draw, choices, &signs);
-    Order { variables, choices, costs: costs(draw, choices), rules, facts }
+    Order { variables, choices, costs: costs(draw, choices), rules, facts, ..Order::default() }
 }
 
 /// Rules and facts around a hidden model.
@@ -142,7 +149,7 @@ fn around(draw: &mut Draw, variables: usize) -> Order {
         rules.push(rule(draw, length, most_true, &hidden));
     }
     let facts = facts(draw, choices, &hidden);
-    Order { variables, choices, costs: costs(draw, choices), rules, facts }
+    Order { variables, choices, costs: costs(draw, choices), rules, facts, ..Order::default() }
 }
 
 pub fn small(draw: &mut Draw) -> Order {
@@ -176,7 +183,7 @@ fn combined(draw: &mut Draw, choices: usize, helpers: usize, given: usize) -> Or
     rules.iter_mut().for_each(|rule| rule.sort_by_key(|literal| literal.abs()));
     let mut facts: Vec<i8> = way[..given].iter().map(|&v| literal(v, hidden[v - 1])).collect();
     facts.sort_by_key(|literal| literal.abs());
-    Order { variables, choices, costs: costs(draw, choices), rules, facts }
+    Order { variables, choices, costs: costs(draw, choices), rules, facts, ..Order::default() }
 }
 
 /// Four rules that are together the given one, each with two helpers in other signs.
@@ -242,24 +249,27 @@ pub fn at_limits(draw: &mut Draw) -> Order {
     let hidden = filling(draw, 48);
     let rules = (0..r).map(|_| rule(draw, 8, 8, &hidden)).collect();
     let facts = (1..=32).map(|v| literal(v, hidden[v - 1])).collect();
-    Order { variables: v, choices: u, costs: costs(draw, u), rules, facts }
+    Order { variables: v, choices: u, costs: costs(draw, u), rules, facts, ..Order::default() }
 }
 
 /// A book with one thing wrong in its bytes or its values, as far as that is not allowed by chance.
-pub fn damaged(draw: &mut Draw) -> Vec<u8> {
+pub fn damaged(draw: &mut Draw, at: Moment) -> Vec<u8> {
     let maker = draw.pick(&[plain, small, combined_small, spread]);
-    let mut order = maker(draw);
+    let order = maker(draw);
+    let mut order = seasons::seasonal(draw, order, at);
     if draw.chance(60) {
         over_limit(draw, &mut order);
         return order.bytes();
     }
     let mut records = order.records();
     let chosen = draw.between(0, records.len() - 1);
-    match draw.between(0, 8) {
+    let other = draw.between(0, records.len() - 1);
+    match draw.between(0, 9) {
         0 => drop(records.remove(chosen)),
         1 => records.insert(chosen, records[chosen].clone()),
         2 => records.swap(chosen, 0),
-        3 | 4 => {
+        3 => records.insert(other, records[chosen].clone()),
+        4 | 5 => {
             let mark = draw.pick(&[b"HD", b"CS", b"RL", b"FA", b"EN", b"WN", b"hd", b"\0\0"]);
             records[chosen][..2].copy_from_slice(mark);
         }
@@ -282,9 +292,9 @@ fn damaged_bytes(draw: &mut Draw, mut bytes: Vec<u8>) -> Vec<u8> {
     bytes
 }
 
-/// Puts one value of the book over its limit, or a literal where it must not be.
+/// Puts one value of the book over its limit, or a literal or a time where it must not be.
 fn over_limit(draw: &mut Draw, order: &mut Order) {
-    match draw.between(0, 11) {
+    match draw.between(0, 15) {
         0 => order.variables = draw.between(49, 255),
         1 => order.choices = draw.between(33, 255),
         2 => order.choices = order.variables + 1,
@@ -295,6 +305,11 @@ fn over_limit(draw: &mut Draw, order: &mut Order) {
         }
         6 | 7 => order.rules.push((1..=draw.between(8, 20) as i8).collect()),
         8 | 9 => put_wrong_literal(draw, &mut order.facts, order.choices),
+        10..=13 if !order.rules.is_empty() => {
+            let chosen = draw.between(0, order.rules.len() - 1);
+            order.windows.resize(order.rules.len(), None);
+            order.windows[chosen] = Some(seasons::wrong_window(draw));
+        }
         _ => {
             let mut list = order.rules.pop().unwrap_or_default();
             put_wrong_literal(draw, &mut list, order.variables);
@@ -312,12 +327,15 @@ fn put_wrong_literal(draw: &mut Draw, list: &mut Vec<i8>, top: usize) {
 }
 
 /// Bytes without a plan, sometimes behind a good beginning, a few of them very many.
-pub fn noise(draw: &mut Draw) -> Vec<u8> {
+pub fn noise(draw: &mut Draw, at: Moment) -> Vec<u8> {
     let mut bytes = match draw.between(0, 3) {
         0 => Vec::new(),
         1 => b"HD".to_vec(),
         2 => vec![b'H', b'D', draw.between(0, 2) as u8, 0, draw.between(0, 2) as u8],
-        _ => plain(draw).bytes(),
+        _ => {
+            let order = plain(draw);
+            seasons::seasonal(draw, order, at).bytes()
+        }
     };
     let more = match draw.between(0, 199) {
         0 => draw.pick(&[4_000, 100_000]),
@@ -325,7 +343,7 @@ pub fn noise(draw: &mut Draw) -> Vec<u8> {
     };
     for _ in 0..more {
         let byte = draw.next() as u8;
-        bytes.push(draw.pick(&[byte, byte % 9, b"HDCSRLFAEN"[usize::from(byte) % 10]]));
+        bytes.push(draw.pick(&[byte, byte % 9, b"HDCSRLWNFAEN"[usize::from(byte) % 12]]));
     }
     bytes
 }

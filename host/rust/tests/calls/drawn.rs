@@ -1,29 +1,47 @@
 //! Every call on drawn books.
 use crate::compare::{Comparison, Counts};
-use crate::draw::{self, Draw};
+use crate::draw::{self, Draw, Order};
+use crate::reckoning::reader;
+use crate::seasons::seasonal;
 use std::sync::Barrier;
+use why_engine::{Moment, Window};
 
-type Maker = fn(&mut Draw) -> Vec<u8>;
+/// Makes the bytes of a book whose windows, if it has any, are close to the moment.
+type Maker = fn(&mut Draw, Moment) -> Vec<u8>;
 
 /// The kinds of books and how many are drawn of each.
 const KINDS: [(&str, u64, Maker); 10] = [
-    ("plain", 24_000, |draw| draw::plain(draw).bytes()),
-    ("small", 30_000, |draw| draw::small(draw).bytes()),
-    ("combined", 30_000, |draw| draw::combined_small(draw).bytes()),
-    ("spread", 24_000, |draw| draw::spread(draw).bytes()),
-    ("contradictory", 3_000, |draw| draw::contradictory(draw).bytes()),
-    ("damaged", 36_000, draw::damaged),
+    ("plain", 24_000, |draw, at| in_season(draw, at, draw::plain)),
+    ("small", 30_000, |draw, at| in_season(draw, at, draw::small)),
+    ("combined", 30_000, |draw, at| in_season(draw, at, draw::combined_small)),
+    ("spread", 24_000, |draw, at| in_season(draw, at, draw::spread)),
+    ("contradictory", 3_000, |draw, at| in_season(draw, at, draw::contradictory)),
+    ("damaged", 42_000, draw::damaged),
     ("noise", 8_000, draw::noise),
-    ("large", 800, |draw| draw::large(draw).bytes()),
-    ("combined large", 400, |draw| draw::combined_large(draw).bytes()),
-    ("at the limits", 400, |draw| draw::at_limits(draw).bytes()),
+    ("large", 800, |draw, at| in_season(draw, at, draw::large)),
+    ("combined large", 400, |draw, at| in_season(draw, at, draw::combined_large)),
+    ("at the limits", 400, |draw, at| in_season(draw, at, draw::at_limits)),
 ];
 
 /// How far the search goes in a large book before that book is left out.
 const LIMIT: u64 = 100_000;
 
-fn compare(bytes: &[u8], draw: &mut Draw, counts: &mut Counts) {
-    Comparison { bytes, draw, counts, limit: LIMIT }.every_call();
+fn in_season(draw: &mut Draw, at: Moment, maker: fn(&mut Draw) -> Order) -> Vec<u8> {
+    let order = maker(draw);
+    seasonal(draw, order, at).bytes()
+}
+
+fn compare(bytes: &[u8], at: Moment, draw: &mut Draw, counts: &mut Counts) {
+    Comparison { bytes, at, draw, counts, limit: LIMIT }.every_call();
+}
+
+/// A moment at an edge of one of the book's windows, if it has any.
+fn edge(bytes: &[u8], draw: &mut Draw) -> Option<Moment> {
+    let windows: Vec<Window> = reader::read(bytes).ok()?.windows.into_iter().flatten().collect();
+    (!windows.is_empty()).then(|| {
+        let window = draw.pick(&windows);
+        draw.edge(window)
+    })
 }
 
 /// The counts of two threads, which are told apart by 0 and 1.
@@ -42,8 +60,13 @@ fn compare_kind(kind: &str, count: u64, maker: Maker) -> Counts {
         let mut counts = Counts::default();
         for number in (half..count).step_by(2) {
             let mut draw = Draw::new(kind, number);
-            let bytes = maker(&mut draw);
-            compare(&bytes, &mut draw, &mut counts);
+            let at = draw.moment();
+            let bytes = maker(&mut draw, at);
+            compare(&bytes, at, &mut draw, &mut counts);
+            if let Some(edge) = edge(&bytes, &mut draw) {
+                compare(&bytes, edge, &mut draw, &mut counts);
+                counts.add("books at a second moment", 1);
+            }
         }
         counts
     });
@@ -81,7 +104,28 @@ fn every_call_on_drawn_books() {
         ("ties settled by goal", 30_000),
         ("ties settled by set", 12_000),
     ]);
-    let least = [1_500, 9_000, 7_000, 3_000, 2_500, 7_000, 2_500, 100_000, 6_000, 500_000];
+    counts.at_least(&[
+        ("books with windows", 150_000),
+        ("books at a second moment", 80_000),
+        ("longest books", 80),
+        ("books refused for a window", 6_000),
+        ("consequences that rules out of force would change", 45_000),
+        ("in force in a window", 400_000),
+        ("out of force by the first day alone", 60_000),
+        ("out of force by the end day alone", 60_000),
+        ("out of force by the weekday alone", 60_000),
+        ("out of force by the first minute alone", 60_000),
+        ("out of force by the end minute alone", 60_000),
+        ("edge: on the day before", 35_000),
+        ("edge: on the first day", 200_000),
+        ("edge: on the last day", 200_000),
+        ("edge: on the end day", 35_000),
+        ("edge: in the minute before", 35_000),
+        ("edge: in the first minute", 200_000),
+        ("edge: in the last minute", 200_000),
+        ("edge: in the end minute", 35_000),
+    ]);
+    let least = [1_500, 9_000, 7_000, 3_000, 2_500, 7_000, 2_500, 100_000, 6_000, 500_000, 0, 0, 0, 200_000];
     for (number, least) in (1..).zip(least) {
         counts.refused_at_least(number, least);
     }
@@ -92,22 +136,24 @@ fn every_call_on_drawn_books() {
 fn every_byte_of_a_book() {
     let mut counts = Counts::default();
     let mut number = 0;
-    while counts.get("books") < 40_000 {
+    while counts.get("books") < 60_000 {
         let mut draw = Draw::new("every byte", number);
+        let at = draw.moment();
         let maker = draw.pick(&[draw::plain, draw::small, draw::combined_small]);
-        let bytes = maker(&mut draw).bytes();
+        let bytes = in_season(&mut draw, at, maker);
         for place in 0..=bytes.len() {
             let (front, back) = bytes.split_at(place);
             let rest = back.get(1..).unwrap_or(&[]);
             let (old, any) = (back.first().copied().unwrap_or(0), draw.next() as u8);
             let byte = [draw.pick(&[any, any % 64, 0, old ^ 1, old.wrapping_neg()])];
             for changed in [&[&[][..], &[]], &[&byte, &[]], &[&[], rest], &[&byte, rest], &[&byte, back]] {
-                compare(&[front, changed[0], changed[1]].concat(), &mut draw, &mut counts);
+                compare(&[front, changed[0], changed[1]].concat(), at, &mut draw, &mut counts);
             }
         }
         number += 1;
     }
     counts.print("every byte");
+    counts.at_least(&[("books with windows", 2_000), ("books refused for a window", 10_000)]);
     for (number, least) in (1..).zip([9_000, 9_000, 300, 2_000, 1_000, 5_000, 200]) {
         counts.refused_at_least(number, least);
     }
@@ -121,8 +167,9 @@ fn two_threads_at_once() {
         start.wait();
         for number in 0..1_000 {
             let mut draw = Draw::new("two threads", number);
-            let bytes = draw::combined_small(&mut draw).bytes();
-            compare(&bytes, &mut draw, &mut counts);
+            let at = draw.moment();
+            let bytes = in_season(&mut draw, at, draw::combined_small);
+            compare(&bytes, at, &mut draw, &mut counts);
         }
         counts
     });

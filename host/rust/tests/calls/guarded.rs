@@ -1,7 +1,7 @@
 //! Each call of the archive, through its pointers and through the safe function, which must agree. Whatever is lent to a call lies between guards
 //! that must stay; where the call refuses, everything behind its pointers must stay.
 use std::fmt::Debug;
-use why_engine::{calls, Book, Costs, Literals, Log, Refusal, Step};
+use why_engine::{calls, Book, Costs, Date, Literals, Log, Moment, Refusal, Step, Window};
 
 /// Elements before and after the room.
 const GUARD: usize = 8;
@@ -76,19 +76,36 @@ fn answered<T: PartialEq + Debug>(returned: u64, done: T, safe: Result<T, Refusa
     answer
 }
 
+/// The window of nine fields, none where all are 0. The narrower types of a window must not hide anything.
+fn window(fields: [u16; 9]) -> Option<Window> {
+    let one_byte = |field: u16| u8::try_from(field).expect("a field of one byte");
+    let date = |i| Date { year: fields[i], month: one_byte(fields[i + 1]), day: one_byte(fields[i + 2]) };
+    (fields != [0; 9]).then(|| Window {
+        first_day: date(0),
+        end_day: date(3),
+        weekdays: one_byte(fields[6]),
+        first_minute: fields[7],
+        end_minute: fields[8],
+    })
+}
+
 pub fn read_book(book: &[u8]) -> Result<Book, Refusal> {
     let mut five = numbers::<5>();
     let mut rules = [(); 2].map(|_| Lent::new(128, |_| UNWRITTEN));
+    let mut windows = Lent::new(128, |_| [UNWRITTEN as u16; 9]);
     let [v, u, r, facts_yes, facts_no] = five.each_mut().map(Lent::pointer);
     let [yes, no] = rules.each_mut().map(|lent| lent.pointer().cast());
+    let nine_each = windows.pointer().cast();
     let returned = handing(book, |bytes, length| unsafe {
-        calls::why_read_book(bytes, length, v, u, r, yes, no, facts_yes, facts_no)
+        calls::why_read_book(bytes, length, v, u, r, yes, no, nine_each, facts_yes, facts_no)
     });
     let done = returned == 0;
     let [variables, choices, count, yes, no] = answers(&five, done);
     let [rules_yes, rules_no] = rules.each_ref().map(|l| l.answer(done).try_into().unwrap());
+    let nine_each: [[u16; 9]; 128] = windows.answer(done).try_into().unwrap();
+    let windows = if done { nine_each.map(window) } else { [None; 128] };
     let facts = Literals { yes, no };
-    let read = Book { variables, choices, rules: count, rules_yes, rules_no, facts };
+    let read = Book { variables, choices, rules: count, rules_yes, rules_no, windows, facts };
     answered(returned, read, why_engine::read_book(book))
 }
 
@@ -100,23 +117,29 @@ pub fn read_costs(book: &[u8]) -> Result<Costs, Refusal> {
     answered(returned, costs, why_engine::read_costs(book))
 }
 
-pub fn model(book: &[u8]) -> Result<u64, Refusal> {
+pub fn model(book: &[u8], at: Moment) -> Result<u64, Refusal> {
+    let Moment { date: Date { year, month, day }, minute } = at;
     let mut one = numbers::<1>();
     let model = one[0].pointer();
-    let returned = handing(book, |bytes, length| unsafe { calls::why_model(bytes, length, model) });
+    let returned =
+        handing(book, |bytes, length| unsafe { calls::why_model(bytes, length, year, month, day, minute, model) });
     let [model] = answers(&one, returned == 0);
-    answered(returned, model, why_engine::model(book))
+    answered(returned, model, why_engine::model(book, at))
 }
 
-pub fn consequence(book: &[u8]) -> Result<Literals, Refusal> {
+pub fn consequence(book: &[u8], at: Moment) -> Result<Literals, Refusal> {
+    let Moment { date: Date { year, month, day }, minute } = at;
     let mut two = numbers::<2>();
     let [yes, no] = two.each_mut().map(Lent::pointer);
-    let returned = handing(book, |bytes, length| unsafe { calls::why_consequence(bytes, length, yes, no) });
+    let returned = handing(book, |bytes, length| unsafe {
+        calls::why_consequence(bytes, length, year, month, day, minute, yes, no)
+    });
     let [yes, no] = answers(&two, returned == 0);
-    answered(returned, Literals { yes, no }, why_engine::consequence(book))
+    answered(returned, Literals { yes, no }, why_engine::consequence(book, at))
 }
 
-pub fn next_step(book: &[u8], known: Literals) -> Result<Step, Refusal> {
+pub fn next_step(book: &[u8], at: Moment, known: Literals) -> Result<Step, Refusal> {
+    let Moment { date: Date { year, month, day }, minute } = at;
     let mut goal = Lent::new(1, |_| UNWRITTEN as i64);
     let mut five = numbers::<5>();
     let goal_pointer = goal.pointer();
@@ -124,7 +147,9 @@ pub fn next_step(book: &[u8], known: Literals) -> Result<Step, Refusal> {
     let returned = handing(book, |bytes, length| unsafe {
         let Literals { yes: known_yes, no: known_no } = known;
         let goal = goal_pointer;
-        calls::why_next_step(bytes, length, known_yes, known_no, goal, yes, no, new_yes, new_no, cost)
+        calls::why_next_step(
+            bytes, length, year, month, day, minute, known_yes, known_no, goal, yes, no, new_yes, new_no, cost,
+        )
     });
     let done = returned == 0;
     let goal = goal.answer(done)[0];
@@ -143,17 +168,19 @@ pub fn next_step(book: &[u8], known: Literals) -> Result<Step, Refusal> {
         // The narrower types of the step must not hide anything.
         assert!(goal.abs() <= 32 && cost <= 33 * 999 && (goal != 0 || rest == [0; 5]));
     }
-    answered(returned, step, why_engine::next_step(book, known))
+    answered(returned, step, why_engine::next_step(book, at, known))
 }
 
 /// The log in a buffer of so many bytes, and what is answered about it.
-pub fn log(book: &[u8], room: usize) -> Result<(Log, Vec<u8>), Refusal> {
+pub fn log(book: &[u8], at: Moment, room: usize) -> Result<(Log, Vec<u8>), Refusal> {
+    let Moment { date: Date { year, month, day }, minute } = at;
     let mut lent = buffer(room);
     let mut three = numbers::<3>();
     let to = lent.pointer();
     let [size, steps, total] = three.each_mut().map(Lent::pointer);
-    let returned =
-        handing(book, |bytes, length| unsafe { calls::why_log(bytes, length, to, room, size, steps, total) });
+    let returned = handing(book, |bytes, length| unsafe {
+        calls::why_log(bytes, length, year, month, day, minute, to, room, size, steps, total)
+    });
     let done = returned == 0;
     let [size, steps, total] = answers(&three, done);
     let size = if done { size as usize } else { 0 };
@@ -161,7 +188,7 @@ pub fn log(book: &[u8], room: usize) -> Result<(Log, Vec<u8>), Refusal> {
     assert!(!done || steps <= 32 && total <= 32 * 33 * 999);
     let log = Log { size, steps: steps as u8, total: total as u32 };
     let mut again = buffer(room);
-    let answer = answered(returned, log, why_engine::log(book, again.room()));
+    let answer = answered(returned, log, why_engine::log(book, at, again.room()));
     assert_eq!(again.cells, lent.cells);
     answer.map(|log| (log, lent.inside()[..size].to_vec()))
 }

@@ -18,7 +18,8 @@ fn every_call_on_hard_books() {
     for (number, path) in books.iter().enumerate() {
         let bytes = std::fs::read(path).expect("a hard book");
         let mut draw = Draw::new("hard", number as u64);
-        Comparison { bytes: &bytes, draw: &mut draw, counts: &mut counts, limit: LIMIT }.every_call();
+        let at = draw.moment();
+        Comparison { bytes: &bytes, at, draw: &mut draw, counts: &mut counts, limit: LIMIT }.every_call();
     }
     counts.print("hard books");
     counts.at_least(&[("books", 55), ("logs", 50), ("steps", 240)]);

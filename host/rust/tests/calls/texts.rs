@@ -105,7 +105,8 @@ fn drawn_texts() {
         same(guarded::read_dimacs(&text, room), Err(refusal(8, 0)), "book", &text);
         if let Some(bytes) = made {
             let counts = &mut counts;
-            Comparison { bytes: &bytes, draw: &mut draw, counts, limit: 20_000 }.every_call();
+            let at = draw.moment();
+            Comparison { bytes: &bytes, at, draw: &mut draw, counts, limit: 20_000 }.every_call();
         }
     }
     counts.print("drawn texts");

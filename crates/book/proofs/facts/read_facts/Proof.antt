@@ -7,7 +7,7 @@ use lib.ListN.{length}
 use denote.Ref.{now}
 use Rattle.book.proofs.FactLaws.{FactsWalked, fact-refused, fact-more, end-refused, end-passed, fact-says, fact-fits}
 use Rattle.records.proofs.LiteralLaws.{masks-none}
-use Rattle.book.proofs.ManyLaws.{walked-none, walked-within}
+use Rattle.book.proofs.ManyLaws.{walked-none, part-within}
 use Rattle.book.proofs.facts.read_facts.Statement.{statement}
 use Rattle.book.proofs.facts.read_facts.Tie as tie
 
@@ -22,8 +22,8 @@ within : (c : tie.After-variable Inv-loop μ-loop)
     → c .before .before .before .before .before .before .before .before .before .before .loop .place + 3 ≤
     length (now (c .before .before .before .before .before .before .before .before .before .before .before .before .args .s))
 within c =
-    walked-within (c .before .before .before .before .before .before .before .before .before .before .loop .inv)
-    (fact-says _ _ _ (c .before .before .before .before .before .read-fact .ensures) (c .before .before .before .l .given .1))
+    part-within (now (c .before .before .before .before .before .before .before .before .before .before .before .before .args .s)) _ (c .before .before .before .before .before .before .before .before .before .before .loop .inv .within)
+    (fact-says _ _ _ (c .before .before .before .before .before .read-fact .ensures) (c .before .before .before .l .given .1) .within)
 
 pub read-facts-spec : {M : Type 1} → statement M
 read-facts-spec =

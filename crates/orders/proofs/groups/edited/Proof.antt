@@ -6,6 +6,6 @@ use Rattle.orders.proofs.groups.edited.Tie as tie
 
 pub edited-spec : {M : Type 1} → statement M
 edited-spec =
-    tie.close (tie.spec (λ _ _ _ _ _ _ _ _. Unit {0}) (λ books _ _ _ _ _ _ i. books - i) (λ c. search needs)
+    tie.close (tie.spec (λ _ _ _ _ _ _ _ _ _. Unit {0}) (λ books _ _ _ _ _ _ _ i. books - i) (λ c. search needs)
     (λ c κs. search needs) (λ c κs. search needs) (λ c κs. search needs) (λ c κs. search needs) (λ c. search needs)
     (λ c. search needs) (λ c. search needs) (λ c. search needs))

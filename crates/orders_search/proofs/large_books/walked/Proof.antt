@@ -6,8 +6,8 @@ use Rattle.orders_search.proofs.large_books.walked.Tie as tie
 
 pub walked-spec : {M : Type 1} → statement M
 walked-spec =
-    tie.close (tie.spec (λ _ _ _ _ _ _ _ _ _. Unit {0}) (λ _ _ records _ _ _ _ _ i. records - i) (λ c. search needs)
-    (λ c κs. search needs) (λ c. search needs) (λ c κs. search needs) (λ c κs. search needs) (λ c κs. search needs)
-    (λ c. search needs) (λ c κs. search needs) (λ c κs. search needs) (λ c κs. search needs) (λ c. search needs)
-    (λ c. search needs) (λ c. search needs) (λ c κs. search needs) (λ c κs. search needs) (λ c κs. search needs) (λ c κs. search needs)
-    (λ c. search needs))
+    tie.close (tie.spec (λ _ _ _ _ _ _ _ _ _ _. Unit {0}) (λ _ _ _ records _ _ _ _ _ i. records - i)
+    (λ c. search needs) (λ c κs. search needs) (λ c κs. search needs) (λ c. search needs) (λ c κs. search needs)
+    (λ c κs. search needs) (λ c κs. search needs) (λ c. search needs) (λ c κs. search needs) (λ c κs. search needs)
+    (λ c κs. search needs) (λ c. search needs) (λ c. search needs) (λ c. search needs) (λ c κs. search needs)
+    (λ c κs. search needs) (λ c κs. search needs) (λ c κs. search needs) (λ c. search needs))

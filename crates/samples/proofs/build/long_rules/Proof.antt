@@ -6,6 +6,6 @@ use Rattle.samples.proofs.build.long_rules.Tie as tie
 
 pub long-rules-spec : {M : Type 1} → statement M
 long-rules-spec =
-    tie.close (tie.spec (λ _ _ _ _ _. Unit {0}) (λ rules _ _ _ i. rules - i) (λ c. search needs)
-    (λ c κs. search needs) (λ c κs. search needs) (λ c. search needs) (λ c. search needs) (λ c. search needs)
-    (λ c. search needs))
+    tie.close (tie.spec (λ _ _ _ _ _ _. Unit {0}) (λ rules _ _ _ _ i. rules - i) (λ c. search needs)
+    (λ c κs. search needs) (λ c κs. search needs) (λ c κs. search needs) (λ c κs. search needs) (λ c. search needs)
+    (λ c. search needs) (λ c. search needs) (λ c. search needs))

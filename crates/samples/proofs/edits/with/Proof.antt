@@ -1,4 +1,4 @@
--- The loop counts `i` up to 2,048.
+-- The loop counts `i` up to `end`.
 use borrow.Author.Needs.{needs}
 use Prim.Native.Nat.{_-_}
 use Rattle.samples.proofs.edits.with.Statement.{statement}
@@ -6,6 +6,6 @@ use Rattle.samples.proofs.edits.with.Tie as tie
 
 pub with-spec : {M : Type 1} → statement M
 with-spec =
-    tie.close (tie.spec (λ _ _ _ _ _ _ _ _. Unit {0}) (λ _ _ _ _ _ _ _ i. 2048 - i) (λ c. search needs)
+    tie.close (tie.spec (λ _ _ _ _ _ _ _ _ _. Unit {0}) (λ _ _ _ _ end _ _ _ i. end - i) (λ c. search needs)
     (λ c. search needs) (λ c. search needs) (λ c. search needs) (λ c. search needs) (λ c. search needs)
     (λ c. search needs) (λ c. search needs) (λ c. search needs))

@@ -1,4 +1,4 @@
--- The loop counts `i` up to 2,047.
+-- The loop counts `i` up to `last`.
 use borrow.Author.Needs.{needs}
 use Prim.Native.Nat.{_-_}
 use Rattle.samples.proofs.edits.without.Statement.{statement}
@@ -6,6 +6,6 @@ use Rattle.samples.proofs.edits.without.Tie as tie
 
 pub without-spec : {M : Type 1} → statement M
 without-spec =
-    tie.close (tie.spec (λ _ _ _ _ _. Unit {0}) (λ _ _ _ _ i. 2047 - i) (λ c. search needs) (λ c. search needs)
+    tie.close (tie.spec (λ _ _ _ _ _ _. Unit {0}) (λ _ _ last _ _ i. last - i) (λ c. search needs)
     (λ c. search needs) (λ c. search needs) (λ c. search needs) (λ c. search needs) (λ c. search needs)
-    (λ c. search needs) (λ c. search needs) (λ c. search needs))
+    (λ c. search needs) (λ c. search needs) (λ c. search needs) (λ c. search needs) (λ c. search needs))

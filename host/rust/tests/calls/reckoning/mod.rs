@@ -1,4 +1,5 @@
 //! What the calls must answer, worked out from the paper. Nothing here calls the engine.
+pub mod dates;
 pub mod dimacs;
 pub mod fillings;
 pub mod reader;

@@ -1,6 +1,6 @@
-//! The book from its bytes, by the sections "The book" and "Where each check is made".
-use super::{bit, refusal, variables, Literals, NO_LITERALS};
-use why_engine::Refusal;
+//! The book from its bytes, by the sections "The book" and "Where each check is made" and by E7.
+use super::{bit, dates, refusal, variables, Literals, NO_LITERALS};
+use why_engine::{Date, Moment, Refusal, Window};
 
 /// A book that was accepted.
 pub struct Book {
@@ -9,10 +9,19 @@ pub struct Book {
     /// The costs of yes and no, from choice 1 on.
     pub costs: Vec<[u16; 2]>,
     pub rules: Vec<Literals>,
+    /// The window of each rule, if it has one.
+    pub windows: Vec<Option<Window>>,
     pub facts: Literals,
 }
 
 impl Book {
+    /// The book with the rules that are in force at the moment.
+    pub fn in_force(&self, at: Moment) -> Book {
+        let both = self.rules.iter().copied().zip(self.windows.iter().copied());
+        let (rules, windows) = both.filter(|&(_, window)| dates::in_force(window, at)).unzip();
+        Book { costs: self.costs.clone(), rules, windows, ..*self }
+    }
+
     /// The sum of the costs of literals over choices.
     pub fn cost(&self, set: Literals) -> u32 {
         let row = |v: u32| self.costs[v as usize - 1];
@@ -39,12 +48,15 @@ impl Book {
             rules_yes[i] = rule.yes;
             rules_no[i] = rule.no;
         }
+        let mut windows = [None; 128];
+        windows[..self.windows.len()].copy_from_slice(&self.windows);
         why_engine::Book {
             variables: self.variables.into(),
             choices: self.choices.into(),
             rules: self.rules.len() as u64,
             rules_yes,
             rules_no,
+            windows,
             facts: self.facts,
         }
     }
@@ -70,17 +82,20 @@ pub fn read(bytes: &[u8]) -> Result<Book, Refusal> {
         costs.push(read_costs(bytes, at, choice)?);
         at += 7;
     }
-    let mut rules = Vec::new();
+    let (mut rules, mut windows) = (Vec::new(), Vec::new());
     for _ in 0..r {
         let (rule, size) = read_rule(bytes, at, v)?;
         rules.push(rule);
         at += size;
+        let window = read_window(bytes, at)?;
+        windows.push(window);
+        at += if window.is_some() { 15 } else { 0 };
     }
     let (facts, end) = read_facts(bytes, at, u)?;
     if bytes.len() > end {
         return Err(refusal(7, end));
     }
-    Ok(Book { variables: v, choices: u, costs, rules, facts })
+    Ok(Book { variables: v, choices: u, costs, rules, windows, facts })
 }
 
 /// The mark of the record that begins at `at`.
@@ -122,6 +137,28 @@ fn read_rule(bytes: &[u8], at: usize, variables: u32) -> Result<(Literals, usize
         last = add(&mut rule, byte, last, variables).ok_or(refusal(6, at))?;
     }
     Ok((rule, 3 + count))
+}
+
+/// The window that begins at `at`, if the mark there is WN. Any other mark is judged by what else may stand there.
+fn read_window(bytes: &[u8], at: usize) -> Result<Option<Window>, Refusal> {
+    if mark(bytes, at, &[b"WN"]).is_err() {
+        return Ok(None);
+    }
+    let &[y1, y2, month, day, z1, z2, end_month, end_day, weekdays, m1, m2, n1, n2] = fields(bytes, at, 2, 13)? else {
+        unreachable!("so many bytes were asked for")
+    };
+    let two = |high, low| u16::from(high) * 256 + u16::from(low);
+    let window = Window {
+        first_day: Date { year: two(y1, y2), month, day },
+        end_day: Date { year: two(z1, z2), month: end_month, day: end_day },
+        weekdays,
+        first_minute: two(m1, m2),
+        end_minute: two(n1, n2),
+    };
+    match dates::is_window(window) {
+        true => Ok(Some(window)),
+        false => Err(refusal(14, at)),
+    }
 }
 
 /// The facts that begin at `at`, and the place after EN.

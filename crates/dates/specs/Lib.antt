@@ -1,0 +1,4 @@
+pub mod Calendar
+pub mod Windows
+pub mod Laws
+pub mod Days
