@@ -81,7 +81,17 @@ abbrev pub maskedAs : Header → List ℕ → List ℕ → List RuleWindow → L
 maskedAs h y n ws two =
     record {
       verdict = Verdict.Accepted;
-      book = record { variables = h .variables; choices = h .choices; rules = h .rules; yes = y; no = n; windows = ws; «facts_yes» = two .yes; «facts_no» = two .no };
+      book = record {
+        variables = h .variables;
+        choices = h .choices;
+        rules = h .rules;
+        yes = y;
+        no = n;
+        windows = ws;
+        «facts_yes» = two .yes;
+        «facts_no» = two
+            .no;
+      };
     }
 
 -- Two ways to go on that are kept alike are kept alike after the same records.

@@ -26,7 +26,8 @@ use Rattle.book.specs.declared.facts.FactsRead.{FactsRead}
 use Rattle.book.specs.declared.facts.FactsRead.the-variants as FactsRead
 use Rattle.records.proofs.CheckLaws.{Good, says-same, checked-first-says, check-says, opened-says, opened-fails, opened-passes}
 use Rattle.records.proofs.LiteralLaws.{masks-more, RisingHead, rising-head}
-use Rattle.book.proofs.ManyLaws.{partFrom, part-from, Whole, begun, begun-refused, begin-then, Due, due-refused, so-far-refused, so-far-all, Walked, walked-more}
+use Rattle.book.proofs.ManyLaws.{partFrom, part-from, Whole, begun, begun-refused, begin-then, Due, due-refused, so-far-refused, so-far-all, Walked}
+use Rattle.book.proofs.ManyLaws.{walked-more}
 
 -- ---- one FA record
 
@@ -128,7 +129,8 @@ module _ (s : List ℕ) (u from : ℕ) where
     module _ {r : FactRead} (a : test ≡ true) (e : r ≡ factAnswer (factAt u last (partFrom s place))) where
       pub fact-refused : {number : ℕ} → r ≡ FactRead.Fails number → FactsRead.Refused number place ≡ factsAnswer (factsLeft s u 0 from)
       unfolding factsAnswer
-      fact-refused f = rw (so-far-refused (g .so-far) (due-refused (facts-due s u last place t (g .within) a) (begun-refused (factAt u last) s place (fact-fails _ e f)))) refl
+      fact-refused f = rw (so-far-refused (g .so-far) (due-refused (facts-due s u last place t (g .within) a)
+          (begun-refused (factAt u last) s place (fact-fails _ e f)))) refl
 
       pub fact-more : {l : Literal} {set′ : LiteralSet} {v : ℕ} → r ≡ FactRead.Says l → u ≤ width → WithLiteral set (toZ w8 (ofZ w8 l)) set′
           → v ≡ variable (toZ w8 (ofZ w8 l)) → FactsWalked set′ v (place + 3)

@@ -1,6 +1,6 @@
 -- The numbers of the reader's own refusals: each is from 1 to 7, or 14, whatever the bytes are.
 -- Assumes nothing.
-use mathlib.Core.Path.{_≡_, refl, sym, _∙_}
+use mathlib.Core.Path.{_≡_, refl}
 use mathlib.Core.Logic.{_⊎_, inl, inr}
 use mathlib.Core.Bool.{Bool, true, false, cond, _&&_, _||_}
 use mathlib.Core.List.{List}
@@ -10,7 +10,8 @@ use borrow.Author.Tests.{leb-true, eqb-true}
 use lib.Dec.{leb, eqb}
 use Rattle.literals.specs.Laws.{and-both}
 use Rattle.records.specs.Format.{RecordRead, says, fails, Read, value, refused, check, checkedFirst, begin, andThen, withItem, OrderBook, opened}
-use Rattle.records.specs.Format.{headerValues, headerAt, costValues, costAt, costFrom, ruleValues, ruleAt, windowValues, windowAt, windowFrom, ruleFrom, factValues, factAt, endAt}
+use Rattle.records.specs.Format.{headerValues, headerAt, costValues, costAt, costFrom, ruleValues, ruleAt, windowValues, windowAt, windowFrom, ruleFrom}
+use Rattle.records.specs.Format.{factValues, factAt, endAt}
 use Rattle.records.specs.Format.{many, factsFrom, fromRules, readBook}
 
 -- The numbers of a reader, as a test, so that `refl` proves it of a numeral.

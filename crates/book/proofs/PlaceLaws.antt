@@ -8,8 +8,9 @@ use native.Mathlib.Omega.{arith}
 use lib.Dec.{ltb}
 use lib.ListN.{length, drop, length-drop}
 use Rattle.literals.specs.Literal.{variable}
-use Rattle.records.specs.Format.{RecordRead, says, fails, Read, value, refused, begin, andThen, withItem, Rule, OrderBook, FA, WN, EN}
-use Rattle.records.specs.Format.{begins, headerAt, costAt, costFrom, ruleAt, windowAt, windowFrom, ruleFrom, factAt, endAt, many, factsFrom, fromRules, readBook}
+use Rattle.records.specs.Format.{RecordRead, says, fails, Read, value, refused, begin, andThen, withItem, OrderBook, FA, WN, EN}
+use Rattle.records.specs.Format.{begins, headerAt, costAt, costFrom, ruleAt, windowAt, windowFrom, ruleFrom, factAt, endAt, many, factsFrom, fromRules}
+use Rattle.records.specs.Format.{readBook}
 use Rattle.records.proofs.CheckLaws.{opened-says}
 use Rattle.book.proofs.CostLaws.{cost-whole}
 use Rattle.book.proofs.FactLaws.{fact-whole}

@@ -12,7 +12,8 @@ use Rattle.literals.specs.Literal.{Literal, ofByte}
 use Rattle.literals.specs.declared.LiteralSet.{LiteralSet}
 use Rattle.dates.specs.declared.Applies.{Applies}
 use Rattle.records.specs.Limits.{maxLiterals, windowSize}
-use Rattle.records.specs.Format.{RecordRead, says, fails, Read, value, refused, andThen, Rule, opened, byte, rising, ruleAt, ruleValues, RL, windowFrom, ruleFrom}
+use Rattle.records.specs.Format.{RecordRead, says, fails, Read, value, refused, andThen, Rule, opened, byte, rising, ruleAt, ruleValues, RL, windowFrom}
+use Rattle.records.specs.Format.{ruleFrom}
 use Rattle.records.specs.Contracts.{masks, ruleAnswer}
 use Rattle.records.specs.declared.rules.RuleRead.{RuleRead}
 use Rattle.records.specs.declared.rules.RuleRead.the-variants as RuleRead

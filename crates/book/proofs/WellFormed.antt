@@ -54,8 +54,10 @@ well-formed s {b} e =
     let p = parts s e in
     let h = p .header-good .good in
     let n = b .header .variables in
-    let cs = many-good (costFrom s) s GoodCost (λ i place c next h e. cost-read s i place h e .1) (b .header .choices) 1 5 (p .header-good .within) (p .costs-read) in
-    let rs = many-good (λ i. ruleFrom s n) s (λ (r : Rule). LiteralsRise n (r .literals)) (λ i place r next h e. rule-read s n place h e .1) (b .header .rules) 1
+    let cs = many-good (costFrom s) s GoodCost (λ i place c next h e. cost-read s i place h e .1) (b .header .choices) 1 5 (p .header-good .within)
+    (p .costs-read) in
+    let rs = many-good (λ i. ruleFrom s n) s (λ (r : Rule). LiteralsRise n (r .literals)) (λ i place r next h e. rule-read s n place h e .1) (b .header .rules)
+    1
     (p .rules-from) (cs .within) (p .rules-read) in
     record {
       few-variables = h .few-variables;

@@ -19,7 +19,7 @@ use Rattle.records.proofs.CheckLaws.{says-same, checked-first-says, check-says,
 use Rattle.book.specs.Contracts.{windowFromAnswer}
 use Rattle.book.specs.declared.rules.WindowFrom.{WindowFrom}
 use Rattle.book.specs.declared.rules.WindowFrom.the-variants as WindowFrom
-use Rattle.book.proofs.ManyLaws.{partFrom, part-from, part-within}
+use Rattle.book.proofs.ManyLaws.{partFrom, part-from}
 use Rattle.book.proofs.ValueLaws.{begin-value}
 
 -- ---- one WN record

@@ -3,14 +3,15 @@ use mathlib.Core.Path.{_≡_, refl}
 use mathlib.Core.List.{List, [], _∷_, _++_, map}
 use Prim.Native.Nat.{ℕ}
 use lib.IntN.{pos}
-use Rattle.literals.specs.Literal.{Literal, variable, ofByte}
+use Rattle.literals.specs.Literal.{variable, ofByte}
 use lib.ListN.{take}
 use Rattle.dates.specs.Calendar.{monthLengths, leapYear, monthLength, isDate, earlier}
 use Rattle.dates.specs.Windows.{isMinute, isWindow}
 use Rattle.dates.specs.declared.Window.{Window}
 use Rattle.dates.specs.declared.Applies.the-variants as Applies
 use Rattle.records.specs.Format.{Read, value, refused, Rule, always, OrderBook, marked, pair, isCost, opened, rising}
-use Rattle.records.specs.Format.{headerValues, headerAt, costValues, costAt, costFrom, ruleValues, ruleAt, begins, windowFrom, ruleFrom, dateAt, windowFields, windowValues, windowAt, factValues, factAt, endAt}
+use Rattle.records.specs.Format.{headerValues, headerAt, costValues, costAt, costFrom, ruleValues, ruleAt, begins, windowFrom, ruleFrom, dateAt, windowFields}
+use Rattle.records.specs.Format.{windowValues, windowAt, factValues, factAt, endAt}
 use Rattle.records.specs.Format.{many, factsFrom, fromRules, readBook}
 use Rattle.book.specs.Orders.{order-a, order-j, order-empty-rule, order-nine-literals, no-rule, one-rule, date, between-days, season, window-bytes}
 
@@ -21,7 +22,13 @@ pub record OrderMeaning : Type 0 where
 
 -- U = V = 1 with the costs of order d, and these rules.
 abbrev smallBook : ℕ → List Rule → OrderBook
-smallBook count rs = record { header = record { variables = 1; choices = 1; rules = count }; costs = record { ofYes = 5; ofNo = 9 } ∷ []; rules = rs; facts = [] }
+smallBook count rs = record {
+  header = record { variables = 1; choices = 1; rules = count };
+  costs = record { ofYes = 5; ofNo = 9 } ∷ [];
+  rules = rs;
+  facts =
+      [];
+}
 
 -- a: 1 at 0. j: 6 at 12, the place of the rule whose literal's opposite does not fit a signed byte. A count of 0 is read as a rule with no literals; a
 -- count of 9 gives 5, before its literals are counted off.
@@ -51,7 +58,11 @@ readings-agree = refl
 unfoldable pub window-readings : List OrderMeaning
 window-readings =
     record { bytes = one-rule []; meaning = value (smallBook 1 (always (pos 1 ∷ []) ∷ [])) 18 }
-    ∷ record { bytes = one-rule (window-bytes season); meaning = value (smallBook 1 (record { literals = pos 1 ∷ []; applies = Applies.During season } ∷ [])) 33 }
+    ∷ record {
+      bytes = one-rule (window-bytes season);
+      meaning = value (smallBook 1 (record { literals = pos 1 ∷ []; applies = Applies.During season } ∷ []))
+          33;
+    }
     ∷ record { bytes = one-rule (window-bytes season ++ window-bytes season); meaning = refused 2 31 }
     ∷ record { bytes = no-rule (window-bytes season); meaning = refused 2 12 }
     ∷ record { bytes = one-rule (0x46 ∷ 0x41 ∷ 0x01 ∷ window-bytes season); meaning = refused 2 19 }

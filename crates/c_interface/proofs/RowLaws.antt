@@ -1,6 +1,6 @@
 -- An array of rows that is filled one after the other from an array of as many entries. Assumes nothing.
-use mathlib.Core.Path.{_≡_, refl, ap, _∙_}
-use mathlib.Core.List.{List, [], _∷_, map, append-nil}
+use mathlib.Core.Path.{_≡_, _∙_}
+use mathlib.Core.List.{List, map, append-nil}
 use Prim.Native.Nat.{ℕ, _+_, _-_, _≤_, _<_}
 use native.Mathlib.Numerals.{add-one}
 use native.Mathlib.Omega.{arith}
@@ -20,7 +20,10 @@ module _ {A B : Type 0} (d : A) (f : B → A) (items : List B) {n : ℕ} (long :
 
   pub rows-more : {array : List A} {i : ℕ} {x : A} (e : B) → Rows array i → i < n → x ≡ f (getD items i e) → Rows (set array i x) (i + 1)
   rows-more {i = i} e g l h =
-      record { upto = omega (arith, l); filled = rw (add-one i, take-suc items i e (omega (arith, long, l))) (rw (← (add-one i)) (filled-more (g .filled) l h)) }
+      record {
+        upto = omega (arith, l);
+        filled = rw (add-one i, take-suc items i e (omega (arith, long, l))) (rw (← (add-one i)) (filled-more (g .filled) l h));
+      }
 
   pub rows-all : {array : List A} {i : ℕ} → Rows array i → n ≤ i → array ≡ map f items
   unfolding padded

@@ -1,4 +1,5 @@
--- The functions for C, for any bytes and any moment: each by equation with the meaning of the engine's call, through `Seen`, and with the contract of that call (for the
+-- The functions for C, for any bytes and any moment: each by equation with the meaning of the engine's call, through `Seen`, and with the contract of that
+-- call (for the
 -- log demand 3, for the consequence demand 2). The contracts in src/lib.rt unfold to what stands here.
 use mathlib.Core.Path.{_≡_}
 use mathlib.Core.List.{List}

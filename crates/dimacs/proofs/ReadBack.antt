@@ -93,7 +93,8 @@ module _ {A : Type 0} (bytesOf : ℕ → A → List ℕ) where
 
 -- Items with the property P, each read back from its bytes where what follows them has the property Q, as the bytes of an item have.
 module _ {A : Type 0} (itemFrom : ℕ → ℕ → Read A) (bytesOf : ℕ → A → List ℕ) (P : A → Type 0) (Q : List ℕ → Type 0) (s : List ℕ)
-    (back : (i place : ℕ) (a : A) (rest : List ℕ) → P a → Q rest → drop place s ≡ bytesOf i a ++ rest → itemFrom i place ≡ value a (place + length (bytesOf i a)))
+    (back : (i place : ℕ) (a : A) (rest : List ℕ) → P a → Q rest → drop place s ≡ bytesOf i a ++ rest → itemFrom i place ≡ value a
+    (place + length (bytesOf i a)))
     (follows : (i : ℕ) (a : A) (rest : List ℕ) → Q (bytesOf i a ++ rest)) where
   others-follow : (items : List A) (i : ℕ) (rest : List ℕ) → Q rest → Q (rowBytes bytesOf i items ++ rest)
   others-follow [] i rest q = q
@@ -140,7 +141,8 @@ pub costs-back : (s : List ℕ) (left i place : ℕ) (rest : List ℕ) → drop 
 unfolding costFrom
 costs-back s left i place rest d =
     rw (length-replicate, costs-row) at
-    (many-back (costFrom s) (λ j c. costBytes j) (λ c. c ≡ oneEach) (λ t. Unit {0}) s one (λ j c t. tt) (replicate left oneEach) i place rest (each-cost left) tt
+    (many-back (costFrom s) (λ j c. costBytes j) (λ c. c ≡ oneEach) (λ t. Unit {0}) s one (λ j c t. tt) (replicate left oneEach) i place rest (each-cost left)
+    tt
     (rw costs-row d))
   where
     one : (j p : ℕ) (c : Cost) (t : List ℕ) → c ≡ oneEach → Unit {0} → drop p s ≡ costBytes j ++ t → costFrom s j p ≡ value c (p + length (costBytes j))
@@ -163,7 +165,8 @@ rules-back s n rs i place rest h e q d =
     one : (j p : ℕ) (r : Rule) (t : List ℕ) → GoodAlways n r → begins WN t ≡ false → drop p s ≡ ruleBytes (r .literals) ++ t
         → ruleFrom s n p ≡ value r (p + length (ruleBytes (r .literals)))
     one j p r t g q k =
-        rw (k, rule-back n h (r .literals) t (g .0), passed s p (ruleBytes (r .literals)) t k, q) (ap (λ x. value x (p + length (ruleBytes (r .literals)))) (sym (g .1)))
+        rw (k, rule-back n h (r .literals) t (g .0), passed s p (ruleBytes (r .literals)) t k, q)
+        (ap (λ x. value x (p + length (ruleBytes (r .literals)))) (sym (g .1)))
 
 -- ---- how many bytes
 

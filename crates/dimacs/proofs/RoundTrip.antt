@@ -12,7 +12,8 @@ use Rattle.literals.specs.Literal.{Literal}
 use Rattle.literals.specs.Truth.{yesMask, noMask}
 use Rattle.literals.specs.Laws.{signBit, signMask, mask-none, mask-more, sign-bit}
 use Rattle.records.specs.Limits.{maxVariables, maxChoices, maxRules, maxLiterals, maxWithoutFacts}
-use Rattle.records.specs.Format.{says, value, Header, always, OrderBook, WN, EN, opened, marked, begins, headerAt, headerValues, endAt, factsFrom, fromRules, readBook}
+use Rattle.records.specs.Format.{says, value, Header, always, OrderBook, WN, EN, opened, marked, begins, headerAt, headerValues, endAt, factsFrom, fromRules}
+use Rattle.records.specs.Format.{readBook}
 use Rattle.book.proofs.ValueLaws.{Each}
 use Rattle.dimacs.specs.Text.{Formula, isDropped, ruleOf}
 use Rattle.dimacs.specs.Import.{choicesOf, keptOf, rulesOf, bookOf, costsBytes, rulesBytes, bookBytes, importedBytes}

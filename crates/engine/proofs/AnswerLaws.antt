@@ -70,7 +70,8 @@ module _ {b : OrderBook} (w : WellFormed b) (moment : Moment) (end : ℕ) where
 
   model-there : (f : ℕ) → Masked f → ModelFilling (problemOf moment b) f
   unfolding problemOf
-  model-there f m = model-filling (problemOf moment b) (proper-book w moment .facts-proper) f (subst (λ (t : Theory). Given t f) (theory-same w moment) (to-theory _ m))
+  model-there f m = model-filling (problemOf moment b) (proper-book w moment .facts-proper) f
+      (subst (λ (t : Theory). Given t f) (theory-same w moment) (to-theory _ m))
 
   model-back : (f : ℕ) → ModelFilling (problemOf moment b) f → Masked f
   unfolding problemOf
@@ -91,7 +92,8 @@ module _ {b : OrderBook} (w : WellFormed b) (moment : Moment) (end : ℕ) where
   pub consequence-says : (r : ConsequenceAnswer) → FoundForced (maskedFrom moment (maskedBook b)) r → r ≡ consequenceAnswer (value (problemOf moment b) end)
   unfolding consequenceAnswer withModel
   consequence-says (ConsequenceAnswer.Forced two) f =
-      rw (not-false (hasModel (problemOf moment b)) (sym (contradicts-has w moment) ∙ f .said .some-model)) (ap ConsequenceAnswer.Forced (f .said .forced ∙ forced-same w moment))
+      rw (not-false (hasModel (problemOf moment b)) (sym (contradicts-has w moment) ∙ f .said .some-model))
+      (ap ConsequenceAnswer.Forced (f .said .forced ∙ forced-same w moment))
   consequence-says (ConsequenceAnswer.Refused number place) f =
       rw (not-true (hasModel (problemOf moment b)) (sym (contradicts-has w moment) ∙ f .said .2)) (ap₂ ConsequenceAnswer.Refused (f .said .0) (f .said .1))
 
@@ -100,14 +102,16 @@ module _ {b : OrderBook} (w : WellFormed b) (moment : Moment) (end : ℕ) where
   unfolding problemOf
   found-for (ConsequenceAnswer.Forced two) f =
       let t = subst
-      (λ (t : Theory). Narrowed (problemOf moment b .variables) (problemOf moment b .choices) (ModelOf t (given (problemOf moment b) .yes) (given (problemOf moment b) .no))
+      (λ (t : Theory). Narrowed (problemOf moment b .variables) (problemOf moment b .choices)
+      (ModelOf t (given (problemOf moment b) .yes) (given (problemOf moment b) .no))
       (f .said .number) two) (theory-same w moment) (f .said .narrowed) in
       record {
         number = f .said .number;
         narrowed = narrowed-problem (problemOf moment b) (proper-book w moment .facts-proper) t;
         at-most = omega (arith, t .narrowing .at-most);
       }
-  found-for (ConsequenceAnswer.Refused number place) f = no-filling (problemOf moment b) (not-true (hasModel (problemOf moment b)) (sym (contradicts-has w moment) ∙ f .said .2))
+  found-for (ConsequenceAnswer.Refused number place) f = no-filling (problemOf moment b) (not-true (hasModel (problemOf moment b))
+      (sym (contradicts-has w moment) ∙ f .said .2))
 
 -- demand 2 of the answer
 fills-in : (moment : Moment) (s : List ℕ) (m : Read Problem) → posed moment s ≡ m → (r : ConsequenceAnswer) → r ≡ consequenceAnswer m → FillsIn m r

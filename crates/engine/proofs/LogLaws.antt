@@ -77,11 +77,13 @@ logged-refused number place before = record { answered = refl; buffer = refl }
 module _ {b : OrderBook} (w : WellFormed b) (moment : Moment) where
   -- the outcome as a function of the theory and of what is forced
   outcomeBy : Theory → LiteralSet → LogOutcome
-  outcomeBy t c = cond (not (hasModel (problemOf moment b))) (refusedWith 9 0) (logged (logOf (runOf (asking t (problemOf moment b .costs) c (given (problemOf moment b))))))
+  outcomeBy t c = cond (not (hasModel (problemOf moment b))) (refusedWith 9 0) (logged (logOf
+      (runOf (asking t (problemOf moment b .costs) c (given (problemOf moment b))))))
 
   pub log-says : (end room : ℕ) → maxLog ≤ room → logIn (maskedFrom moment (maskedBook b)) (table (b .costs)) ≡ logOutcome room (value (problemOf moment b) end)
   unfolding logIn logOutcome withModel runFor outcomeBy problemOf
-  log-says end room l = rw (contradicts-has w moment, le-ltb _ _ l) (ap₂ outcomeBy (theory-same w moment) (forced-same w moment) ∙ cond-not (hasModel (problemOf moment b)) _ _)
+  log-says end room l = rw (contradicts-has w moment, le-ltb _ _ l) (ap₂ outcomeBy (theory-same w moment) (forced-same w moment) ∙ cond-not
+      (hasModel (problemOf moment b)) _ _)
 
 -- ---- demand 3
 

@@ -4,7 +4,6 @@ use mathlib.Core.Path.{_≡_, refl, ap, _∙_}
 use mathlib.Core.Bool.{true, false}
 use mathlib.Core.List.{List, [], _∷_, map}
 use Prim.Native.Nat.{ℕ}
-use lib.ListN.{length}
 use Rattle.dates.specs.Windows.{isMoment, inForce}
 use Rattle.dates.specs.declared.Moment.{Moment}
 use Rattle.records.specs.Format.{Read, value, Rule, OrderBook, readBook}

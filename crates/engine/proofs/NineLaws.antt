@@ -31,7 +31,8 @@ module _ {A : Type 0} (answer : Problem → A) (refuse : ℕ → ℕ → A) (num
   nine-then due moment s (refused number place) e =
       record {
         nine-none =
-            λ at d. let k : number ≡ 9 = number-of _ _ _ _ d in ⊎-elim (λ n. omega (arith, k, n .0, n .1)) (λ n. omega (arith, k, n)) (posed-numbers moment s e);
+            λ at d. let k : number ≡ 9 = number-of _ _ _ _ d in ⊎-elim (λ n. omega (arith, k, n .0, n .1)) (λ n. omega (arith, k, n))
+            (posed-numbers moment s e);
         none-nine = λ u n. absurd n;
       }
   nine-then due moment s (value p end) e = go (hasModel p) refl

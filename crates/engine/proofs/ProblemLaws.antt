@@ -54,7 +54,8 @@ module _ {b : OrderBook} (w : WellFormed b) (moment : Moment) where
       (no-consequence (problemOf moment b) (proper-book w moment .facts-proper)))
 
   -- they contradict the rules exactly where the book has no model
-  pub contradicts-has : contradicts (theoryIn (maskedFrom moment (maskedBook b))) (maskedFrom moment (maskedBook b) .facts .yes) (maskedFrom moment (maskedBook b) .facts .no)
+  pub contradicts-has : contradicts (theoryIn (maskedFrom moment (maskedBook b))) (maskedFrom moment (maskedBook b) .facts .yes)
+      (maskedFrom moment (maskedBook b) .facts .no)
       ≡ not (hasModel (problemOf moment b))
   unfolding problemOf
   contradicts-has =

@@ -31,7 +31,8 @@ use Rattle.log_form.specs.Format.{Log, logBytes}
 use Rattle.log.specs.Meaning.{runFor, logOf}
 use Rattle.log.specs.Laws.SameFillings.{same-next, same-run}
 use Rattle.engine.specs.Calls.{posed, withModel, firstModel, modelAnswer, ModelCall, consequenceAnswer, ConsequenceCall, between}
-use Rattle.engine.specs.Calls.{stepSays, stepFor, stepAnswer, StepCall, LogOutcome, logged, refusedWith, logOutcome, logAnswer, bufferAfter, LoggedAs, LogCall}
+use Rattle.engine.specs.Calls.{stepSays, stepFor, stepAnswer, StepCall, LogOutcome, logged, refusedWith, logOutcome, logAnswer, bufferAfter, LoggedAs}
+use Rattle.engine.specs.Calls.{LogCall}
 use Rattle.engine.specs.SameScreens.{SameScreens, Reordered, Retyped, BothNine, EqualLogs, SameLogs, choicesIn, SameChosen, SameModels, SameAnswers}
 use Rattle.engine.specs.declared.ModelAnswer.{ModelAnswer}
 use Rattle.engine.specs.declared.ModelAnswer.the-variants as ModelAnswer
@@ -218,7 +219,8 @@ module _ {moment : Moment} {s t : List ℕ} (x : Retyped moment s t) where
       (λ l. omega (arith, bit-inter f (full k) v, bit-inter g (full k) v, same v l))
       (λ l. omega (arith, bit-inter f (full k) v, bit-inter g (full k) v, bit-full-high k v (omega arith))))
 
-  both-models : {r o : ModelAnswer} → ModelCall s moment r → ModelCall t moment o → SameChosen (choicesIn (posed moment s)) r o ⊎ BothNine ModelAnswer.Refused r o
+  both-models : {r o : ModelAnswer} → ModelCall s moment r → ModelCall t moment o → SameChosen (choicesIn (posed moment s)) r o ⊎ BothNine ModelAnswer.Refused
+      r o
   unfolding modelAnswer withModel
   both-models {r} {o} c d =
       rw here (go (hasModel one) refl (rw (here, withModel) at (c .said))

@@ -6,7 +6,6 @@ use mathlib.Core.List.{List}
 use Prim.Native.Nat.{ℕ, _^_, _<_}
 use native.Mathlib.Omega.{arith}
 use lib.IntN.{ℤ}
-use borrow.Author.Tests.{not-true, not-false}
 use Rattle.sets.specs.Sets.{subset}
 use Rattle.sets.specs.Laws.Subset.{subset-within, within-subset}
 use Rattle.literals.specs.declared.LiteralSet.{LiteralSet}
@@ -48,15 +47,6 @@ use Rattle.engine.specs.declared.StepAnswer.the-variants as StepAnswer
 use Rattle.engine.proofs.NineLaws.{nine-exactly}
 use Rattle.engine.proofs.ProblemLaws.{theory-same, forced-same, contradicts-has, Taken, taken-posed, same-problem, same-costs}
 use Rattle.engine.proofs.PosedLaws.{posed-refused, posed-proper}
-
--- ---- the flag of a test
-
-module _ {x r : Bool} (e : r ≡ x) where
-  pub flag-no : not r ≡ true → x ≡ false
-  flag-no t = sym e ∙ not-true r t
-
-  pub flag-yes : not r ≡ false → x ≡ true
-  flag-yes t = sym e ∙ not-false r t
 
 -- ---- the answer of `step::next_step`, passed on
 
@@ -146,7 +136,8 @@ module _ {b : OrderBook} (w : WellFormed b) (moment : Moment) where
       cond (not (hasModel (problemOf moment b))) (StepAnswer.Refused 9 0)
       (cond (between (given (problemOf moment b)) known c) (stepSays (stepOf (asking t (problemOf moment b .costs) c known))) (StepAnswer.Refused 10 0))
 
-  pub step-says : (end on off : ℕ) → stepIn (maskedFrom moment (maskedBook b)) (table (b .costs)) (record { yes = on; no = off }) ≡ stepAnswer on off (value (problemOf moment b) end)
+  pub step-says : (end on off : ℕ) → stepIn (maskedFrom moment (maskedBook b)) (table (b .costs)) (record { yes = on; no = off }) ≡ stepAnswer on off
+      (value (problemOf moment b) end)
   unfolding stepIn stepAnswer stepFor withModel answerBy problemOf
   step-says end on off = rw (contradicts-has w moment) (ap₂ (answerBy (record { yes = on; no = off })) (theory-same w moment) (forced-same w moment)
       ∙ cond-not (hasModel (problemOf moment b)) _ _)
@@ -160,7 +151,8 @@ module _ {p : Problem} (w : ProperProblem p) (some : hasModel p ≡ true) where
   sound-between known b =
       facts.between-sound (choices-below w) (forced w) (consistent w some) (p .costs) (lies _ _ _ b)
 
-is-next : (moment : Moment) (s : List ℕ) (known : LiteralSet) (m : Read Problem) → posed moment s ≡ m → (r : StepAnswer) → r ≡ stepAnswer (known .yes) (known .no) m
+is-next : (moment : Moment) (s : List ℕ) (known : LiteralSet) (m : Read Problem) → posed moment s ≡ m → (r : StepAnswer) → r ≡ stepAnswer (known .yes)
+    (known .no) m
     → IsNext m known r
 unfolding stepAnswer stepFor withModel stepSays
 is-next moment s known (refused number place) e r c = c

@@ -21,7 +21,8 @@ AnswersFirst (value p end) (ModelAnswer.Model f) = First (ModelFilling p) f
 AnswersFirst (value p end) (ModelAnswer.Refused number place) = NoFilling p
 AnswersFirst (refused number place) r = r ≡ ModelAnswer.Refused number place
 
--- The same answer to the bytes s and to the bytes t at a moment. `equal-bytes` shows it where they are equal, `same-model` where they read as two books as below, and
+-- The same answer to the bytes s and to the bytes t at a moment. `equal-bytes` shows it where they are equal, `same-model` where they read as two books as
+-- below, and
 -- `reordered-model` where only the order of the rules differs.
 pub record EqualModels (moment : Moment) (s t : List ℕ) : Type 0 where
   pub same : {r o : ModelAnswer} → ModelCall s moment r → ModelCall t moment o → r ≡ o
@@ -30,5 +31,7 @@ pub record EqualModels (moment : Moment) (s t : List ℕ) : Type 0 where
 pub record SameObeyed (moment : Moment) (b c : OrderBook) : Type 0 where
   pub same-variables : b .header .variables ≡ c .header .variables
   pub same-facts : b .facts ≡ c .facts
-  pub there : (f : ℕ) → f < 2 ^ b .header .variables → obeysRules f (rulesInForce moment (b .rules)) ≡ true → obeysRules f (rulesInForce moment (c .rules)) ≡ true
-  pub back : (f : ℕ) → f < 2 ^ c .header .variables → obeysRules f (rulesInForce moment (c .rules)) ≡ true → obeysRules f (rulesInForce moment (b .rules)) ≡ true
+  pub there : (f : ℕ) → f < 2 ^ b .header .variables → obeysRules f (rulesInForce moment (b .rules)) ≡ true → obeysRules f (rulesInForce moment (c .rules)) ≡
+      true
+  pub back : (f : ℕ) → f < 2 ^ c .header .variables → obeysRules f (rulesInForce moment (c .rules)) ≡ true → obeysRules f (rulesInForce moment (b .rules)) ≡
+      true

@@ -202,5 +202,6 @@ fewer-steps-agree = refl
 
 pub lower-goal-steps-agree : map (λ (r : KnownRow). from (r .bytes) (r .yes) (r .no) (lowerGoalAnswer (r .yes) (r .no) (posed noon (r .bytes)))) lowerGoalSteps
     ≡ lowerGoalSteps
-unfolding lowerGoalSteps lowerGoalAnswer lowerGoalStep lowerGoalCandidate lowerGoalFirst computed readAndPosed order-fewer-facts order-higher-goal stepSays withModel
+unfolding lowerGoalSteps lowerGoalAnswer lowerGoalStep lowerGoalCandidate lowerGoalFirst computed readAndPosed order-fewer-facts order-higher-goal stepSays
+    withModel
 lower-goal-steps-agree = refl

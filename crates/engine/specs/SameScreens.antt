@@ -76,7 +76,8 @@ pub record EqualLogs (before after : List ℕ) (r : LogAnswer) (other-before oth
 pub record SameLogs (moment : Moment) (s t : List ℕ) : Type 0 where
   pub equal : {before after other-before other-after : List ℕ} {r o : LogAnswer} → LogCall s moment before after r → LogCall t moment other-before other-after o
       → maxLog ≤ length before → maxLog ≤ length other-before → EqualLogs before after r other-before other-after o ⊎ BothNine LogAnswer.Refused r o
-  pub short : {before after : List ℕ} {r : LogAnswer} → LogCall s moment before after r → length before < maxLog → (r ≡ LogAnswer.Refused 8 0) × (after ≡ before)
+  pub short : {before after : List ℕ} {r : LogAnswer} → LogCall s moment before after r → length before < maxLog → (r ≡ LogAnswer.Refused 8 0) ×
+      (after ≡ before)
   pub other-short : {before after : List ℕ} {o : LogAnswer} → LogCall t moment before after o → length before < maxLog
       → (o ≡ LogAnswer.Refused 8 0) × (after ≡ before)
   -- where neither has a model, both give 9 if their buffers are long enough

@@ -8,7 +8,7 @@ use Rattle.log_form.specs.Format.{listBytes, twoBytes, fourBytes, recordBytes, 
 use Rattle.log.specs.Meaning.{costsWritten, withNew, runFrom, runOf, runFor}
 use Rattle.sets.specs.Sets.{membersFrom, membersBelow, members}
 use Rattle.literals.specs.Literal.{byteOf, literalsOf}
-use Rattle.book.specs.Orders.{order-a, order-c, order-d, one-rule, date, season, window-bytes}
+use Rattle.book.specs.Orders.{order-a, one-rule, date, season, window-bytes}
 use Rattle.engine.specs.Calls.{withModel, consequenceAnswer, logOutcome, logAnswer, bufferAfter}
 use Rattle.engine.specs.Orders.{OrderRow, refuses, logs, set, meant, computed, readAndPosed, firstComputed}
 
@@ -86,7 +86,8 @@ unfolding season-rows meant computed readAndPosed firstComputed one-rule window-
 season-agrees = refl
 
 pub calendar-agrees : map (λ (r : MomentRow). meant (r .moment) (r .row .bytes)) calendar-rows ≡ map (λ (r : MomentRow). r .row) calendar-rows
-unfolding calendar-rows meant computed readAndPosed firstComputed one-rule window-bytes consequenceAnswer withModel logOutcome logAnswer bufferAfter runFor runOf
+unfolding calendar-rows meant computed readAndPosed firstComputed one-rule window-bytes consequenceAnswer withModel logOutcome logAnswer bufferAfter runFor
+    runOf
     runFrom withNew logBytes costsWritten okBytes recordsBytes recordBytes listBytes literalsOf twoBytes fourBytes byteOf members membersBelow membersFrom
 calendar-agrees = refl
 

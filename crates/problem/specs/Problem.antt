@@ -1,4 +1,5 @@
--- The problem that the engine answers: what a book says at a moment, with nothing left of its bytes. Models, the consequence, the step, the log and the demands are
+-- The problem that the engine answers: what a book says at a moment, with nothing left of its bytes. Models, the consequence, the step, the log and the
+-- demands are
 -- stated over it; how it is made from a book is said here alone.
 use mathlib.Core.Bool.{cond}
 use mathlib.Core.List.{List, [], _∷_}

@@ -1,11 +1,11 @@
 -- From a callee's answer back to what the bytes mean: what a record's checks came to, by the answer that the code matched on.
 -- Assumes nothing.
-use mathlib.Core.Path.{_≡_, refl, sym, _∙_}
-use mathlib.Core.Bool.{Bool, true, false, not}
+use mathlib.Core.Path.{_≡_, refl}
+use mathlib.Core.Bool.{Bool, true, false}
 use mathlib.Core.List.{List}
 use Prim.Native.Nat.{ℕ, _≤_, _<_}
 use native.Mathlib.Omega.{arith}
-use borrow.Author.Tests.{le-leb, lt-leb, leb-true, not-true, not-false}
+use borrow.Author.Tests.{le-leb, lt-leb, leb-true}
 use lib.Dec.{leb}
 use lib.ListN.{length}
 use Rattle.records.specs.Format.{RecordRead, says, fails, check, checkedFirst, opened, marked}
@@ -17,13 +17,6 @@ use Rattle.records.specs.declared.mark.Check.the-variants.{Passes, Fails
 pub record Good {A : Type 0} (P : A → Type 0) (t : List ℕ) (a : A) (len : ℕ) : Type 0 where
   pub within : len ≤ length t
   pub good : P a
-
--- a test that the code has in a local, and found to fail or to pass
-pub test-fails : {r b : Bool} → r ≡ b → not r ≡ true → b ≡ false
-test-fails e t = sym e ∙ not-true _ t
-
-pub test-passes : {r b : Bool} → r ≡ b → not r ≡ false → b ≡ true
-test-passes e t = sym e ∙ not-false _ t
 
 -- a test against a limit, from what the code has compared with a number
 pub over-limit : (limit : ℕ) {m n : ℕ} → m < n → leb limit m ≡ true → leb n limit ≡ false

@@ -25,7 +25,8 @@ returns-2 : tie.Need-returns-2
 unfolding tableAnswer
 returns-2 c =
     let r = said (c .before) in
-    let costs = ap (λ k. many (costFrom (now (c .before .before .before .before .before .args .s))) (k .choices) 1 5) (r .keeps) ∙ parts _ (r .said) .costs-read in
+    let costs = ap (λ k. many (costFrom (now (c .before .before .before .before .before .args .s))) (k .choices) 1 5) (r .keeps) ∙ parts _ (r .said)
+    .costs-read in
     rw (r .said) (c .cost-table .ensures ∙ ap (tableAnswer (λ cs. cs)) costs)
 
 pub read-costs-spec : {M : Type 1} → statement M

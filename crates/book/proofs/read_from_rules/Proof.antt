@@ -11,8 +11,11 @@ use Rattle.book.proofs.read_from_rules.Tie as tie
 read-facts-requires : tie.Need-read-facts-requires
 read-facts-requires c κs =
     let p = c .before .before .before .before .before .pre in
-    let r = rules-say _ (c .before .before .before .read-rules .ensures) (c .before .after2 .given .1) in
-    (omega (arith, p .0, p .1 .0), many-good (λ i. ruleFrom _ _) _ (λ (k : Rule). LiteralsRise _ (k .literals)) (λ i place k next h e. rule-read _ _ place h e .1) _ _ _ (p .1 .1 .1) (r .said) .within)
+    let r = rules-say _ (c .before .before .before .read-rules .ensures) (c .before .after2 .given .1) in (
+      omega (arith, p .0, p .1 .0),
+      many-good (λ i. ruleFrom _ _) _ (λ (k : Rule). LiteralsRise _ (k .literals))
+          (λ i place k next h e. rule-read _ _ place h e .1) _ _ _ (p .1 .1 .1) (r .said) .within,
+    )
 
 pub read-from-rules-spec : {M : Type 1} → statement M
 read-from-rules-spec =

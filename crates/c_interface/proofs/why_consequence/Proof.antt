@@ -11,4 +11,5 @@ why-consequence-spec =
     (λ c.
     let m = rw (c .before .before .before .before .before .moment-of .ensures) at (c .before .before .before .before .consequence .ensures) in
     seen-refused m (m .said) (c .before .before .number .given .1) refl (c .refusal .ensures))
-    (λ c. let m = rw (c .before .before .before .before .moment-of .ensures) at (c .before .before .before .consequence .ensures) in seen-done m (m .said) (c .before .forced .given .1) refl))
+    (λ c. let m = rw (c .before .before .before .before .moment-of .ensures) at (c .before .before .before .consequence .ensures) in seen-done m (m .said)
+    (c .before .forced .given .1) refl))

@@ -7,10 +7,12 @@ use Rattle.c_interface.proofs.why_log.Tie as tie
 
 pub why-log-spec : {M : Type 1} → statement M
 why-log-spec =
-    tie.close (tie.spec (λ c κs. search needs) (λ c κs. search needs) (λ c. search needs) (λ c κs. search needs) (λ c. search needs) (λ c. search needs) (λ c. search needs)
+    tie.close (tie.spec (λ c κs. search needs) (λ c κs. search needs) (λ c. search needs) (λ c κs. search needs) (λ c. search needs) (λ c. search needs)
+    (λ c. search needs)
     (λ c. search needs)
     (λ c.
-    let m = rw (c .before .before .before .before .before .before .before .before .moment-of .ensures) at (c .before .before .before .before .before .before .log .ensures) in
+    let m = rw (c .before .before .before .before .before .before .before .before .moment-of .ensures) at
+    (c .before .before .before .before .before .before .log .ensures) in
     seen-refused m (m .said .answered) (c .before .before .number .given .1) refl (c .refusal .ensures))
     (λ c. search needs)
     (λ c.

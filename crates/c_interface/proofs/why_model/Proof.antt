@@ -11,4 +11,5 @@ why-model-spec =
     (λ c.
     let m = rw (c .before .before .before .before .before .moment-of .ensures) at (c .before .before .before .before .model .ensures) in
     seen-refused m (m .said) (c .before .before .number .given .1) refl (c .refusal .ensures))
-    (λ c. let m = rw (c .before .before .before .before .moment-of .ensures) at (c .before .before .before .model .ensures) in seen-done m (m .said) (c .before .m .given .1) refl))
+    (λ c. let m = rw (c .before .before .before .before .moment-of .ensures) at (c .before .before .before .model .ensures) in seen-done m (m .said)
+    (c .before .m .given .1) refl))

@@ -19,12 +19,14 @@ returns c =
 
 returns-2 : tie.Need-returns-2
 returns-2 c =
-    let m = rw (c .before .before .before .before .before .before .before .before .before .before .moment-of .ensures) at (c .before .before .before .before .before .before .before .before .before .next-step .ensures) in
+    let m = rw (c .before .before .before .before .before .before .before .before .before .before .moment-of .ensures) at
+    (c .before .before .before .before .before .before .before .before .before .next-step .ensures) in
     let o = c .before .before .before .before .before .before .before .before .step-outcome .ensures in
     rw (cast-same {w = w8} {z = c .before .before .before .before .before .before .step .given .0 .0 .goal} tt (record { sfits = search needs }))
     (seen-done m (m .said) refl (sym o ∙ ap outcomeOf (c .before .before .before .before .before .before .step .given .1)))
 
 pub why-next-step-spec : {M : Type 1} → statement M
 why-next-step-spec =
-    tie.close (tie.spec (λ c κs. search needs) (λ c κs. search needs) (λ c κs. search needs) (λ c. search needs) (λ c κs. search needs) (λ c. search needs) cast-goal
+    tie.close (tie.spec (λ c κs. search needs) (λ c κs. search needs) (λ c κs. search needs) (λ c. search needs) (λ c κs. search needs) (λ c. search needs)
+    cast-goal
     (λ c. search needs) returns returns-2)

@@ -9,4 +9,5 @@ pub window-row-spec : {M : Type 1} → statement M
 unfolding windowRow
 window-row-spec =
     tie.close (tie.spec (λ c. search needs) (λ c. search needs) (λ c. search needs) (λ c. search needs) (λ c. search needs) (λ c. search needs)
-    (λ c. search needs) (λ c. rw (c .enum-told .given .1) refl) (λ c. rw (c .before .before .before .before .before .before .before .before .applies .given .1) refl))
+    (λ c. search needs) (λ c. rw (c .enum-told .given .1) refl) (λ c. rw (c .before .before .before .before .before .before .before .before .applies .given .1)
+    refl))

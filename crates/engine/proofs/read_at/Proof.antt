@@ -1,5 +1,5 @@
 -- `engine::read_at` meets its contract. Assumes nothing.
-use mathlib.Core.Path.{refl, sym, _∙_}
+use mathlib.Core.Path.{sym, _∙_}
 use borrow.Author.Needs.{needs}
 use Rattle.book.specs.Answer.{bookAnswer}
 use Rattle.engine.specs.Calls.{readAt}

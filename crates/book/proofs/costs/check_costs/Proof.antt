@@ -29,4 +29,5 @@ check-costs-spec =
     (λ c. search needs) (λ c. search needs) (λ c. search needs) (λ c. search needs)
     (λ c. many-more _ _ _ _ _ _ (c .before .before .before .before .before .loop .inv) (c .before .before .before .before .loop-test .taken)
     (cost-from _ _ _ (c .before .before .before .before .before .loop .inv .within)
-    (cost-says _ _ (c .before .before .read-cost .ensures) (c .enum-told .given .1))) (λ done k. tt)) (λ c. many-all placeAnswer (costFrom _) _ _ _ _ _ (c .before .loop .inv) (c .loop-test .left)))
+    (cost-says _ _ (c .before .before .read-cost .ensures) (c .enum-told .given .1))) (λ done k. tt))
+    (λ c. many-all placeAnswer (costFrom _) _ _ _ _ _ (c .before .loop .inv) (c .loop-test .left)))

@@ -22,7 +22,8 @@ within : (c : tie.After-variable Inv-loop μ-loop)
     → c .before .before .before .before .before .before .before .before .before .before .loop .place + 3 ≤
     length (now (c .before .before .before .before .before .before .before .before .before .before .before .before .args .s))
 within c =
-    part-within (now (c .before .before .before .before .before .before .before .before .before .before .before .before .args .s)) _ (c .before .before .before .before .before .before .before .before .before .before .loop .inv .within)
+    part-within (now (c .before .before .before .before .before .before .before .before .before .before .before .before .args .s)) _
+    (c .before .before .before .before .before .before .before .before .before .before .loop .inv .within)
     (fact-says _ _ _ (c .before .before .before .before .before .read-fact .ensures) (c .before .before .before .l .given .1) .within)
 
 pub read-facts-spec : {M : Type 1} → statement M

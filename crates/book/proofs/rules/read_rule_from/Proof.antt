@@ -15,7 +15,11 @@ use Rattle.book.proofs.rules.read_rule_from.Tie as tie
 add-read-window-from : tie.Need-add-read-window-from
 add-read-window-from c =
     let w = rule-says _ _ (c .before .before .before .read-rule .ensures) (c .before .set .given .1) in
-    omega (arith, part-within (now (c .before .before .before .before .before .before .args .s)) _ (c .before .before .before .before .before .before .pre .1) (w .within))
+    omega (
+      arith,
+      part-within (now (c .before .before .before .before .before .before .args .s)) _ (c .before .before .before .before .before .before .pre .1)
+          (w .within),
+    )
 
 read-window-from-requires : tie.Need-read-window-from-requires
 read-window-from-requires c κs =
@@ -29,14 +33,17 @@ returns c = rw (rule-refused _ _ _ (rule-fails _ (c .before .before .before .rea
 returns-2 : tie.Need-returns-2
 unfolding ruleFromAnswer
 returns-2 c =
-    let w = rule-says _ _ (c .before .before .before .before .before .before .before .read-rule .ensures) (c .before .before .before .before .before .set .given .1) in
+    let w = rule-says _ _ (c .before .before .before .before .before .before .before .read-rule .ensures)
+    (c .before .before .before .before .before .set .given .1) in
     rw (rule-then _ _ _ (w .said), window-from-refused _ (c .before .before .before .read-window-from .ensures) (c .before .number2 .given .1)) refl
 
 returns-3 : tie.Need-returns-3
 unfolding ruleFromAnswer
 returns-3 c =
-    let w = rule-says _ _ (c .before .before .before .before .before .before .before .read-rule .ensures) (c .before .before .before .before .before .set .given .1) in
-    rw (rule-then _ _ _ (w .said), window-from-says _ (c .before .before .before .read-window-from .ensures) (c .before .applies .given .1)) (ap (λ t. RuleFrom.Says t (c .before .applies .given .0 .0) (c .before .applies .given .0 .1 .0)) (w .holds))
+    let w = rule-says _ _ (c .before .before .before .before .before .before .before .read-rule .ensures)
+    (c .before .before .before .before .before .set .given .1) in
+    rw (rule-then _ _ _ (w .said), window-from-says _ (c .before .before .before .read-window-from .ensures) (c .before .applies .given .1))
+    (ap (λ t. RuleFrom.Says t (c .before .applies .given .0 .0) (c .before .applies .given .0 .1 .0)) (w .holds))
 
 pub read-rule-from-spec : {M : Type 1} → statement M
 read-rule-from-spec =

@@ -1,13 +1,13 @@
 -- `book::rules::read_rules` meets its contract. Assumes nothing.
-use mathlib.Core.Path.{_≡_, ap, _∙_}
+use mathlib.Core.Path.{ap, _∙_}
 use Prim.Native.Nat.{_-_}
 use native.Mathlib.Omega.{arith}
 use borrow.Author.Needs.{needs}
 use Rattle.records.specs.Limits.{maxRules}
-use Rattle.records.specs.Format.{Rule, ruleFrom, many}
+use Rattle.records.specs.Format.{ruleFrom, many}
 use Rattle.book.specs.Answer.{ruleYes, ruleNo, ruleWindow, noWindow}
 use Rattle.book.specs.Contracts.{rulesAnswer}
-use Rattle.book.proofs.ManyLaws.{Walked, WholeFrom, walked-none, manyLeft, many-begun, many-more, many-refused, many-all}
+use Rattle.book.proofs.ManyLaws.{Walked, walked-none, manyLeft, many-begun, many-more, many-refused, many-all}
 use Rattle.book.proofs.PaddedLaws.{Filled, filled-none, filled-more}
 use Rattle.book.proofs.RuleLaws.{rule-from-refused, rule-from-says}
 use Rattle.book.proofs.rules.read_rules.Statement.{statement}
@@ -26,7 +26,8 @@ returns : tie.Need-returns Inv-loop μ-loop
 unfolding rulesAnswer
 returns c =
     c .no-rules .ensures
-    ∙ many-refused rulesAnswer (λ k. ruleFrom _ _) _ _ _ _ _ (c .before .before .before .before .before .before .loop .inv) (c .before .before .before .before .before .loop-test .taken)
+    ∙ many-refused rulesAnswer (λ k. ruleFrom _ _) _ _ _ _ _ (c .before .before .before .before .before .before .loop .inv)
+    (c .before .before .before .before .before .loop-test .taken)
     (rule-from-refused _ (c .before .before .before .before .read-rule-from .ensures) (c .before .before .number .given .1))
 
 loop-again : tie.Need-loop-again Inv-loop μ-loop

@@ -17,18 +17,24 @@ returns c = rw (no-window _ _ (c .before .begins .ensures) (not-true _ (c .if1 .
 add-t19 : tie.Need-add-t19
 add-t19 c =
     let w = window-says _ (c .before .before .before .read-window .ensures) (c .before .window .given .1) in
-    omega (arith, part-within (now (c .before .before .before .before .before .before .before .before .before .args .s)) _ (c .before .before .before .before .before .before .before .before .before .pre) (w .1))
+    omega (
+      arith,
+      part-within (now (c .before .before .before .before .before .before .before .before .before .args .s)) _
+          (c .before .before .before .before .before .before .before .before .before .pre) (w .1),
+    )
 
 returns-2 : tie.Need-returns-2
 unfolding windowFromAnswer
 returns-2 c =
-    rw (window-refused _ _ (c .before .before .before .before .before .before .begins .ensures) (not-false _ (c .before .before .before .before .before .if1 .left))
+    rw (window-refused _ _ (c .before .before .before .before .before .before .begins .ensures)
+    (not-false _ (c .before .before .before .before .before .if1 .left))
     (window-fails _ (c .before .before .before .read-window .ensures) (c .before .number .given .1))) refl
 
 returns-3 : tie.Need-returns-3
 unfolding windowFromAnswer
 returns-3 c =
-    rw (window-there _ _ (c .before .before .before .before .before .before .begins .ensures) (not-false _ (c .before .before .before .before .before .if1 .left))
+    rw (window-there _ _ (c .before .before .before .before .before .before .begins .ensures)
+    (not-false _ (c .before .before .before .before .before .if1 .left))
     (window-says _ (c .before .before .before .read-window .ensures) (c .before .window .given .1) .0)) refl
 
 pub read-window-from-spec : {M : Type 1} → statement M

@@ -2,11 +2,12 @@
 use mathlib.Core.Path.{_≡_, refl, ap₂}
 use mathlib.Core.Bool.{false}
 use borrow.Author.Needs.{needs}
+use Rattle.dates.proofs.Tests.{found-false, found-true}
 use Rattle.problem.specs.declared.MaskedProblem.{MaskedProblem}
 use Rattle.consequence.specs.Meaning.{contradicts}
 use Rattle.engine.specs.Contracts.{theoryIn, forcedIn, stepIn}
 use Rattle.engine.specs.declared.StepAnswer.the-variants as StepAnswer
-use Rattle.engine.proofs.StepLaws.{found-nine, found-set, stepping, flag-no, flag-yes}
+use Rattle.engine.proofs.StepLaws.{found-nine, found-set, stepping}
 use Rattle.engine.proofs.steps.step_of.Statement.{statement}
 use Rattle.engine.proofs.steps.step_of.Tie as tie
 
@@ -23,13 +24,13 @@ unfolding stepIn
 returns c =
     let f = found (c .before .before) in
     let t = (rw (f .1) at (c .before .lies-between .ensures)) in
-    rw (f .0, flag-no t (c .if1 .taken)) refl
+    rw (f .0, found-false t (c .if1 .taken)) refl
 
 take-step-requires : tie.Need-take-step-requires
 take-step-requires c κs =
     let f = found (c .before .before) in
     rw (f .1) (stepping _ _ (c .before .before .before .before .before .before .pre) (f .0) _
-    (flag-yes (rw (f .1) at (c .before .lies-between .ensures)) (c .if1 .left)))
+    (found-true (rw (f .1) at (c .before .lies-between .ensures)) (c .if1 .left)))
 
 returns-2 : tie.Need-returns-2
 unfolding stepIn
@@ -41,7 +42,7 @@ returns-3 : tie.Need-returns-3
 unfolding stepIn
 returns-3 c =
     let f = found (c .before .before .before) in
-    rw (f .0, flag-yes (rw (f .1) at (c .before .before .lies-between .ensures)) (c .before .if1 .left)) (rw (f .1) at (c .take-step .ensures))
+    rw (f .0, found-true (rw (f .1) at (c .before .before .lies-between .ensures)) (c .before .if1 .left)) (rw (f .1) at (c .take-step .ensures))
 
 pub step-of-spec : {M : Type 1} → statement M
 step-of-spec =

@@ -11,7 +11,8 @@ use Rattle.engine_checks.proofs.models_found.models_found.Statement.{st
 use Rattle.engine_checks.proofs.models_found.models_found.Tie as tie
 
 -- the book was read at the moment
-read-then : (c : tie.After-read) → c .read .result ≡ bookAnswer (readAt (c .before .before .before .moment-of .result) (now (c .before .before .before .before .before .args .s)))
+read-then : (c : tie.After-read) → c .read .result ≡ bookAnswer (readAt (c .before .before .before .moment-of .result)
+    (now (c .before .before .before .before .before .args .s)))
 read-then c =
     c .read .ensures ∙ ap bookAnswer (sym (read-possible _ _ (sym (c .before .before .is-moment .ensures) ∙ not-false _ (c .before .if1 .left))))
 

@@ -2,10 +2,10 @@
 use mathlib.Core.Path.{_≡_, refl, ap, _∙_}
 use borrow.Author.Needs.{needs}
 use denote.Ref.{now}
+use Rattle.dates.proofs.Tests.{found-false, found-true}
 use Rattle.dates.specs.Windows.{isWindow}
 use Rattle.records.specs.Format.{windowFields, windowValues}
 use Rattle.records.specs.Contracts.{windowAnswer}
-use Rattle.records.proofs.CheckLaws.{test-fails, test-passes}
 use Rattle.records.proofs.windows.window_values.Statement.{statement}
 use Rattle.records.proofs.windows.window_values.Tie as tie
 
@@ -16,5 +16,5 @@ tested c = c .is-window .ensures ∙ ap isWindow (c .before .window-fields .ensu
 pub window-values-spec : {M : Type 1} → statement M
 unfolding windowValues windowAnswer
 window-values-spec =
-    tie.close (tie.spec (λ c κs. search needs) (λ c κs. search needs) (λ c. rw (test-fails (tested (c .before)) (c .if1 .taken)) refl)
-    (λ c. rw (test-passes (tested (c .before)) (c .if1 .left), c .before .before .window-fields .ensures) refl))
+    tie.close (tie.spec (λ c κs. search needs) (λ c κs. search needs) (λ c. rw (found-false (tested (c .before)) (c .if1 .taken)) refl)
+    (λ c. rw (found-true (tested (c .before)) (c .if1 .left), c .before .before .window-fields .ensures) refl))
