@@ -6,6 +6,7 @@ ghost use Rattle.dates.specs.Windows as windows;
 
 mod days;
 
+pub use days::day_number;
 pub use days::weekday;
 
 // A day of the calendar: the month and the day counted from 1.

@@ -159,7 +159,7 @@ pub fn all(heading: &[u8], t: Tally) {
     if t.tried[tally::WHOLE_LOG] > 0 {
         logs_by_steps(t);
     }
-    if t.tried[tally::SAME_LOG] > 0 {
+    if t.tried[tally::SAME_TERMS] > 0 {
         report_pairs::ways(t);
     }
     if t.seen[tally::OTHERS] > 0 {

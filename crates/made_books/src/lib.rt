@@ -4,7 +4,7 @@ mod cores;
 mod covers;
 mod drawn;
 pub mod made;
-pub mod moments;
+mod moments;
 pub mod seasons;
 mod several;
 mod shapes;

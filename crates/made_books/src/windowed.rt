@@ -1,4 +1,5 @@
 // Books with windows, made of good ones without, and of the same the book of the rules that are in force at a moment.
+use crate::moments;
 use crate::seasons;
 use crate::seasons::Season;
 use samples::build;
@@ -17,6 +18,9 @@ pub struct Windowed {
 
 impl Windowed {
     pub const WINDOWS: usize = 5;
+
+    // The moments at the edges of all windows.
+    pub const EDGES: u8 = Windowed::WINDOWS as u8 * moments::EDGES;
 }
 
 // How the rules are typed: each with its window, or without windows and only those that are in force at a moment.
@@ -47,6 +51,11 @@ pub fn window_of(b: Windowed, rule: u8) -> Window {
     let place = rule as usize % Windowed::WINDOWS;
     let windows = b.windows;
     windows[place]
+}
+
+// One of the moments at the edges of the windows.
+pub fn edge(b: Windowed, n: u8) -> Moment {
+    moments::edge(window_of(b, n / moments::EDGES), n % moments::EDGES)
 }
 
 fn byte_at(d: Draft, place: usize) -> u8 {

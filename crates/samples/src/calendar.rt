@@ -136,6 +136,15 @@ pub fn previous(date_after: u32) -> u32 {
     date(std::num::wrapping_sub_u16(year, 1), 12, 31)
 }
 
+// Dates to try, in their order, of which many cannot be: days 0 to 32 of the months 0 to 13 of the years 1999 to 2100.
+pub const TRIED: u32 = 47124;
+
+// The one of them that has so many before it.
+pub fn tried(n: u32) -> u32 {
+    let year = std::num::wrapping_add_u16(limits::FIRST_YEAR - 1, (n / 462 % 102) as u16);
+    date(year, (n / 33 % 14) as u8, (n % 33) as u8)
+}
+
 // Whether a date can be.
 pub fn can_be(date: u32) -> bool {
     let year = year_of(date);
