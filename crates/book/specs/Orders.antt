@@ -1,6 +1,7 @@
 -- The starred orders at the counter (document 01) and three more, as bytes. Costs are 5 for yes and 9 for no unless said.
 use mathlib.Core.List.{List, [], _∷_, _++_}
 use Prim.Native.Nat.{ℕ, _/_, _%_}
+use Rattle.dates.specs.Calendar.{dateOf}
 use Rattle.dates.specs.declared.Date.{Date}
 use Rattle.dates.specs.declared.Window.{Window}
 
@@ -114,16 +115,13 @@ unfoldable pub one-rule : List ℕ → List ℕ
 one-rule bytes =
     0x48 ∷ 0x44 ∷ 0x01 ∷ 0x01 ∷ 0x01 ∷ 0x43 ∷ 0x53 ∷ 0x01 ∷ 0x00 ∷ 0x05 ∷ 0x00 ∷ 0x09 ∷ 0x52 ∷ 0x4C ∷ 0x01 ∷ 0x01 ∷ bytes ++ (0x45 ∷ 0x4E ∷ [])
 
--- A day, and a window of Monday to Friday, 9:00 to 17:30.
-abbrev pub date : ℕ → ℕ → ℕ → Date
-date y m d = record { year = y; month = m; day = d }
-
+-- A window of Monday to Friday, 9:00 to 17:30.
 abbrev pub between-days : Date → Date → Window
 between-days first end = record { «first_day» = first; «end_day» = end; weekdays = 0x1F; «first_minute» = 540; «end_minute» = 1050 }
 
 -- The season of the rows: from 1 March 2024 on, before 1 November 2024.
 abbrev pub season : Window
-season = between-days (date 2024 3 1) (date 2024 11 1)
+season = between-days (dateOf 2024 3 1) (dateOf 2024 11 1)
 
 -- The bytes of WN.
 unfoldable pub window-bytes : Window → List ℕ

@@ -5,7 +5,7 @@ use Prim.Native.Nat.{ℕ}
 use lib.IntN.{pos}
 use Rattle.literals.specs.Literal.{variable, ofByte}
 use lib.ListN.{take}
-use Rattle.dates.specs.Calendar.{monthLengths, leapYear, monthLength, isDate, earlier}
+use Rattle.dates.specs.Calendar.{dateOf, monthLengths, leapYear, monthLength, isDate, earlier}
 use Rattle.dates.specs.Windows.{isMinute, isWindow}
 use Rattle.dates.specs.declared.Window.{Window}
 use Rattle.dates.specs.declared.Applies.the-variants as Applies
@@ -13,7 +13,7 @@ use Rattle.records.specs.Format.{Read, value, refused, Rule, always, OrderBook,
 use Rattle.records.specs.Format.{headerValues, headerAt, costValues, costAt, costFrom, ruleValues, ruleAt, begins, windowFrom, ruleFrom, dateAt, windowFields}
 use Rattle.records.specs.Format.{windowValues, windowAt, factValues, factAt, endAt}
 use Rattle.records.specs.Format.{many, factsFrom, fromRules, readBook}
-use Rattle.book.specs.Orders.{order-a, order-j, order-empty-rule, order-nine-literals, no-rule, one-rule, date, between-days, season, window-bytes}
+use Rattle.book.specs.Orders.{order-a, order-j, order-empty-rule, order-nine-literals, no-rule, one-rule, between-days, season, window-bytes}
 
 -- An order's bytes, and what they mean.
 pub record OrderMeaning : Type 0 where
@@ -76,9 +76,9 @@ windows-agree = refl
 -- Windows that can be: 29 February of 2000 and of 2004, and each field at its limits.
 unfoldable pub windows : List Window
 windows =
-    between-days (date 2000 2 29) (date 2004 2 29)
-    ∷ record { «first_day» = date 2000 1 1; «end_day» = date 2099 12 31; weekdays = 127; «first_minute» = 0; «end_minute» = 1440 }
-    ∷ record { «first_day» = date 2099 12 30; «end_day» = date 2099 12 31; weekdays = 1; «first_minute» = 1439; «end_minute» = 1440 }
+    between-days (dateOf 2000 2 29) (dateOf 2004 2 29)
+    ∷ record { «first_day» = dateOf 2000 1 1; «end_day» = dateOf 2099 12 31; weekdays = 127; «first_minute» = 0; «end_minute» = 1440 }
+    ∷ record { «first_day» = dateOf 2099 12 30; «end_day» = dateOf 2099 12 31; weekdays = 1; «first_minute» = 1439; «end_minute» = 1440 }
     ∷ []
 
 pub windows-read : map (λ w. readBook (one-rule (window-bytes w))) windows
@@ -90,16 +90,16 @@ windows-read = refl
 -- and 128, minute 1440 as the first, 1441 as the end, an end minute that is the first or before it. Each gives 14 where WN begins.
 unfoldable pub impossible-windows : List Window
 impossible-windows =
-    between-days (date 2099 2 29) (date 2099 11 1)
-    ∷ between-days (date 2024 4 31) (date 2024 11 1)
-    ∷ between-days (date 2024 3 1) (date 2024 4 31)
-    ∷ between-days (date 2024 0 1) (date 2024 11 1)
-    ∷ between-days (date 2024 3 1) (date 2024 13 1)
-    ∷ between-days (date 2024 3 0) (date 2024 11 1)
-    ∷ between-days (date 1999 12 31) (date 2024 11 1)
-    ∷ between-days (date 2024 3 1) (date 2100 1 1)
-    ∷ between-days (date 2024 3 1) (date 2024 3 1)
-    ∷ between-days (date 2024 3 1) (date 2024 2 29)
+    between-days (dateOf 2099 2 29) (dateOf 2099 11 1)
+    ∷ between-days (dateOf 2024 4 31) (dateOf 2024 11 1)
+    ∷ between-days (dateOf 2024 3 1) (dateOf 2024 4 31)
+    ∷ between-days (dateOf 2024 0 1) (dateOf 2024 11 1)
+    ∷ between-days (dateOf 2024 3 1) (dateOf 2024 13 1)
+    ∷ between-days (dateOf 2024 3 0) (dateOf 2024 11 1)
+    ∷ between-days (dateOf 1999 12 31) (dateOf 2024 11 1)
+    ∷ between-days (dateOf 2024 3 1) (dateOf 2100 1 1)
+    ∷ between-days (dateOf 2024 3 1) (dateOf 2024 3 1)
+    ∷ between-days (dateOf 2024 3 1) (dateOf 2024 2 29)
     ∷ at-times 0 540 1050
     ∷ at-times 128 540 1050
     ∷ at-times 31 1440 1441
@@ -110,7 +110,7 @@ impossible-windows =
   where
     at-times : ℕ → ℕ → ℕ → Window
     at-times days first end =
-        record { «first_day» = date 2024 3 1; «end_day» = date 2024 11 1; weekdays = days; «first_minute» = first; «end_minute» = end }
+        record { «first_day» = dateOf 2024 3 1; «end_day» = dateOf 2024 11 1; weekdays = days; «first_minute» = first; «end_minute» = end }
 
 pub impossible-refused : map (λ w. readBook (one-rule (window-bytes w))) impossible-windows ≡ map (λ w. refused 14 16) impossible-windows
 unfolding impossible-windows one-rule window-bytes readComputed

@@ -7,6 +7,10 @@ use lib.ListN.{getD}
 use Rattle.items.specs.Weights.{sumBelow}
 use Rattle.dates.specs.declared.Date.{Date}
 
+-- The date of a year, a month and a day.
+abbrev pub dateOf : ℕ → ℕ → ℕ → Date
+dateOf y m d = record { year = y; month = m; day = d }
+
 -- The lengths of the months, in one table; of February where the year is no leap year.
 unfoldable pub monthLengths : List ℕ
 monthLengths = 31 ∷ 28 ∷ 31 ∷ 30 ∷ 31 ∷ 30 ∷ 31 ∷ 31 ∷ 30 ∷ 31 ∷ 30 ∷ 31 ∷ []
@@ -51,5 +55,5 @@ weekday d = (dayNumber d + 5) % 7
 -- The day after a date.
 unfoldable pub nextDay : Date → Date
 nextDay d =
-    cond (ltb (d .day) (monthLength (d .year) (d .month - 1))) (record { year = d .year; month = d .month; day = d .day + 1 })
-    (cond (ltb (d .month) 12) (record { year = d .year; month = d .month + 1; day = 1 }) (record { year = d .year + 1; month = 1; day = 1 }))
+    cond (ltb (d .day) (monthLength (d .year) (d .month - 1))) (dateOf (d .year) (d .month) (d .day + 1))
+    (cond (ltb (d .month) 12) (dateOf (d .year) (d .month + 1) 1) (dateOf (d .year + 1) 1 1))

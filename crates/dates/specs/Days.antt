@@ -4,8 +4,7 @@ use mathlib.Core.Bool.{Bool, true, false}
 use mathlib.Core.List.{List, [], _∷_, map}
 use Prim.Native.Nat.{ℕ}
 use Rattle.items.specs.Weights.{sumBelow}
-use Rattle.dates.specs.Calendar.{monthLengths, leapYear, monthLength, isDate, daysOfMonths, daysOfYears, dayNumber, weekday}
-use Rattle.dates.specs.Laws.Dates.{dateOf}
+use Rattle.dates.specs.Calendar.{dateOf, monthLengths, leapYear, monthLength, isDate, daysOfMonths, daysOfYears, dayNumber, weekday}
 use Rattle.dates.specs.declared.Date.{Date}
 
 -- A date, and whether it can be.

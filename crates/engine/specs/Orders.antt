@@ -5,7 +5,7 @@ use Prim.Native.Nat.{ℕ}
 use lib.Count.{ones, trailingZeros}
 use lib.IntN.{pos, negsuc}
 use Rattle.sets.specs.Sets.{bit, has, insert, subset, disjoint, diff, membersFrom, membersBelow, members}
-use Rattle.dates.specs.Calendar.{daysOfMonths, daysOfYears, dayNumber, weekday}
+use Rattle.dates.specs.Calendar.{dateOf, daysOfMonths, daysOfYears, dayNumber, weekday}
 use Rattle.dates.specs.Windows.{isMoment, isOpen, inForce}
 use Rattle.dates.specs.declared.Moment.{Moment}
 use Rattle.literals.specs.Literal.{byteOf, literalsOf}
@@ -16,7 +16,7 @@ use Rattle.records.specs.Format.{Read}
 use Rattle.book.specs.Readings.{readComputed}
 use Rattle.book.specs.Answer.{table, padded}
 use Rattle.book.specs.Orders.{order-a, order-b, order-c, order-d, order-e, order-f, order-g, order-h, order-i, order-j}
-use Rattle.book.specs.Orders.{order-empty-rule, order-nine-literals, order-either, order-fewer-facts, order-higher-goal, date}
+use Rattle.book.specs.Orders.{order-empty-rule, order-nine-literals, order-either, order-fewer-facts, order-higher-goal}
 use Rattle.sat.specs.Meaning.{everyUnder, everyFilling, someFilling, obeysRules, isModel}
 use Rattle.first_model.specs.Meaning.{weight, comesBefore, firstUnder, firstFilling}
 use Rattle.problem.specs.Problem.{Problem, rulesInForce, problemOf, costOf}
@@ -115,7 +115,7 @@ fewerOrders =
 
 -- The moment of the rows: 17 November 2026, noon.
 abbrev pub noon : Moment
-noon = record { date = date 2026 11 17; minute = 720 }
+noon = record { date = dateOf 2026 11 17; minute = 720 }
 
 -- What the meanings say of an order's bytes at a moment, with the shortest buffer that serves.
 unfoldable pub meant : Moment → List ℕ → OrderRow

@@ -2,13 +2,14 @@
 use mathlib.Core.Path.{_≡_, refl}
 use mathlib.Core.List.{List, [], _∷_, map}
 use Prim.Native.Nat.{ℕ}
+use Rattle.dates.specs.Calendar.{dateOf}
 use Rattle.dates.specs.declared.Moment.{Moment}
 use Rattle.dates.specs.declared.Window.{Window}
 use Rattle.log_form.specs.Format.{listBytes, twoBytes, fourBytes, recordBytes, recordsBytes, okBytes, logBytes}
 use Rattle.log.specs.Meaning.{costsWritten, withNew, runFrom, runOf, runFor}
 use Rattle.sets.specs.Sets.{membersFrom, membersBelow, members}
 use Rattle.literals.specs.Literal.{byteOf, literalsOf}
-use Rattle.book.specs.Orders.{order-a, one-rule, date, season, window-bytes}
+use Rattle.book.specs.Orders.{order-a, one-rule, season, window-bytes}
 use Rattle.engine.specs.Calls.{withModel, consequenceAnswer, logOutcome, logAnswer, bufferAfter}
 use Rattle.engine.specs.Orders.{OrderRow, refuses, logs, set, meant, computed, readAndPosed, firstComputed}
 
@@ -18,7 +19,7 @@ pub record MomentRow : Type 0 where
   pub row : OrderRow
 
 abbrev moment-of : ℕ → ℕ → ℕ → ℕ → Moment
-moment-of y m d minute = record { date = date y m d; minute = minute }
+moment-of y m d minute = record { date = dateOf y m d; minute = minute }
 
 -- U = V = 1, rule (1) with a window. In force it is order d: 1 follows, in one step of cost 9. Out of force nothing follows, and the first model says no.
 abbrev in-force : Window → Moment → MomentRow
@@ -33,10 +34,10 @@ out-of-force w m = record { moment = m; row = logs (one-rule (window-bytes w)) 0
 
 -- Every day of the week, all day, in the first days of 2000; and Saturdays.
 abbrev leap-day : Window
-leap-day = record { «first_day» = date 2000 2 29; «end_day» = date 2000 3 1; weekdays = 127; «first_minute» = 0; «end_minute» = 1440 }
+leap-day = record { «first_day» = dateOf 2000 2 29; «end_day» = dateOf 2000 3 1; weekdays = 127; «first_minute» = 0; «end_minute» = 1440 }
 
 abbrev on-weekdays : ℕ → Window
-on-weekdays days = record { «first_day» = date 2000 1 1; «end_day» = date 2099 12 31; weekdays = days; «first_minute» = 0; «end_minute» = 1440 }
+on-weekdays days = record { «first_day» = dateOf 2000 1 1; «end_day» = dateOf 2099 12 31; weekdays = days; «first_minute» = 0; «end_minute» = 1440 }
 
 -- The season is from 1 March 2024, a Friday, on and before 1 November 2024, a Friday; Monday to Friday, from 9:00 on and before 17:30.
 -- The first day, the day before; the day before the end day, the end day; a Saturday and the Monday after it; the first minute, the one before; the minute

@@ -14,30 +14,12 @@ fn date(t: Tally, date: u32) -> Tally {
     compare::count(t, window_boundaries::with_window(end))
 }
 
-// Every day from 0 to 32 of a month, of which there are those from 0 to 13, of the years 1999 to 2100.
-fn days(t: Tally, year: u16, month: u8) -> Tally {
-    let mut after = t;
-    let end: u8 = 33;
-    for day in 0..end {
-        after = date(after, calendar::date(year, month, day));
-    }
-    after
-}
-
-fn months(t: Tally, year: u16) -> Tally {
-    let mut after = t;
-    let end: u8 = 14;
-    for month in 0..end {
-        after = days(after, year, month);
-    }
-    after
-}
-
+// Dates of which many cannot be.
 pub fn dates(t: Tally) -> Tally {
     let mut after = t;
-    let end: u16 = 2101;
-    for year in 1999..end {
-        after = months(after, year);
+    let end = calendar::TRIED;
+    for n in 0..end {
+        after = date(after, calendar::tried(n));
     }
     after
 }

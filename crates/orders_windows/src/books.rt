@@ -15,7 +15,6 @@ use samples::build;
 use samples::build::Draft;
 use samples::random;
 use samples::reckon;
-use samples::reckon::Reckoned;
 use samples::windows;
 use samples::windows::Moment;
 

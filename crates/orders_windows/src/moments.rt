@@ -9,7 +9,6 @@ use samples::build;
 use samples::build::Draft;
 use samples::calendar;
 use samples::counter;
-use samples::limits;
 use samples::windows;
 use samples::windows::Moment;
 

@@ -48,7 +48,7 @@ impl Book {
     // A step for each choice, and the end.
     pub const MAX_LOG: usize = Book::MAX_CHOICES * Book::MAX_STEP_BYTES + Book::OK_SIZE;
 
-    // The bytes of a book without facts, at most: HD, CS for each choice, RL for each rule with the most literals, EN.
+    // The bytes of a book without windows and facts, at most: HD, CS for each choice, RL for each rule with the most literals, EN.
     pub const MAX_WITHOUT_FACTS: usize = 5
         + Book::MAX_CHOICES * 7
         + Book::MAX_RULES * (3 + Book::MAX_LITERALS)

@@ -7,13 +7,9 @@ use native.Mathlib.Decide.{ℕ-discrete, decLt}
 use native.Mathlib.Omega.{arith}
 use borrow.Author.Tests.{leb-true, le-leb, lt-ltb, le-ltb, eq-eqb, ne-eqb}
 use lib.Dec.{ltb, eqb}
-use Rattle.dates.specs.Calendar.{monthLength, isDate, earlier, daysOfMonths, daysOfYears, dayNumber, weekday}
+use Rattle.dates.specs.Calendar.{dateOf, monthLength, isDate, earlier, daysOfMonths, daysOfYears, dayNumber, weekday}
 use Rattle.dates.specs.Laws.Months.{months-next, months-part, years-next, years-part, hundred-years}
 use Rattle.dates.specs.declared.Date.{Date}
-
--- The date of a year, a month and a day.
-abbrev pub dateOf : ℕ → ℕ → ℕ → Date
-dateOf y m d = record { year = y; month = m; day = d }
 
 -- Dates of the same year, month and day are the same.
 pub same-date : (d e : Date) → d .year ≡ e .year → d .month ≡ e .month → d .day ≡ e .day → d ≡ e
@@ -23,7 +19,7 @@ same-date d e p q r = whole
     whole = cc
 
 -- What the year, the month and the day of a date are within.
-pub record Within (d : Date) : Type 0 where
+pub record DateBounds (d : Date) : Type 0 where
   pub year-from : 2000 ≤ d .year
   pub year-to : d .year ≤ 2099
   pub month-from : 1 ≤ d .month
@@ -32,7 +28,7 @@ pub record Within (d : Date) : Type 0 where
   pub day-to : d .day ≤ monthLength (d .year) (d .month - 1)
 
 -- A date is within that.
-pub date-within : (d : Date) → isDate d ≡ true → Within d
+pub date-within : (d : Date) → isDate d ≡ true → DateBounds d
 unfolding isDate
 date-within d h =
     let five = and-eq-true-iff _ _ .0 h in
@@ -50,7 +46,7 @@ date-within d h =
     }
 
 -- What is within that is a date.
-pub within-date : (d : Date) → Within d → isDate d ≡ true
+pub within-date : (d : Date) → DateBounds d → isDate d ≡ true
 unfolding isDate
 within-date d w =
     rw (le-leb _ _ (w .year-from), le-leb _ _ (w .year-to), le-leb _ _ (w .month-from), le-leb _ _ (w .month-to), le-leb _ _ (w .day-from))

@@ -8,9 +8,9 @@ use native.Mathlib.Omega.{arith}
 use borrow.Author.Tests.{ltb-true, ltb-false}
 use lib.Dec.{ltb}
 use Rattle.items.specs.Weights.{sumBelow}
-use Rattle.dates.specs.Calendar.{monthLengths, monthLength, isDate, daysOfMonths, daysOfYears, dayNumber, weekday, nextDay}
+use Rattle.dates.specs.Calendar.{dateOf, monthLengths, monthLength, isDate, daysOfMonths, daysOfYears, dayNumber, weekday, nextDay}
 use Rattle.dates.specs.Laws.Months.{month-range}
-use Rattle.dates.specs.Laws.Dates.{dateOf, same-date, date-within, within-date, month-end, year-end}
+use Rattle.dates.specs.Laws.Dates.{same-date, date-within, within-date, month-end, year-end}
 use Rattle.dates.specs.declared.Date.{Date}
 
 -- The next day is of the same month, or the first of the next month, or the first of the next year: what holds of each holds of it.

@@ -1,4 +1,4 @@
--- The loop counts `year` up to `end`.
+-- The loop counts `n` up to `end`.
 use borrow.Author.Needs.{needs}
 use Prim.Native.Nat.{_-_}
 use Rattle.orders.proofs.window_groups.dates.Statement.{statement}
@@ -6,5 +6,5 @@ use Rattle.orders.proofs.window_groups.dates.Tie as tie
 
 pub dates-spec : {M : Type 1} → statement M
 dates-spec =
-    tie.close (tie.spec (λ _ _ _ _ _. Unit {0}) (λ _ end _ _ year. end - year) (λ c. search needs)
+    tie.close (tie.spec (λ _ _ _ _ _. Unit {0}) (λ _ end _ _ n. end - n) (λ c. search needs) (λ c κs. search needs)
     (λ c κs. search needs) (λ c. search needs) (λ c. search needs) (λ c. search needs) (λ c. search needs))
