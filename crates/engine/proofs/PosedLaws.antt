@@ -6,7 +6,9 @@ use mathlib.Core.Bool.{Bool, true, false, cond}
 use mathlib.Core.List.{List}
 use Prim.Native.Nat.{ℕ, _≤_}
 use native.Mathlib.Omega.{arith}
+use lib.Count.{ones-ones}
 use lib.ListN.{length}
+use Rattle.sets.specs.Sets.{count}
 use Rattle.dates.specs.Windows.{isMoment}
 use Rattle.dates.specs.declared.Moment.{Moment}
 use Rattle.records.specs.Format.{Read, value, refused, andThen, OrderBook, readBook}
@@ -89,3 +91,8 @@ module _ (moment : Moment) (s : List ℕ) {number place : ℕ} where
 pub read-possible : (moment : Moment) (s : List ℕ) → isMoment moment ≡ true → readAt moment s ≡ readBook s
 unfolding readAt
 read-possible moment s e = rw e refl
+
+-- the choices of a book's problem are as many as its header says, so that one more than them is U + 1
+pub choices-counted : (moment : Moment) (b : OrderBook) → count (problemOf moment b .choices) ≡ b .header .choices
+unfolding problemOf
+choices-counted moment b = ones-ones (b .header .choices)
