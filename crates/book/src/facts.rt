@@ -9,7 +9,7 @@ use records::facts::FactRead;
 use records::mark::Check;
 use records::{facts, mark};
 
-#[derive(Drop)]
+#[derive(Clone, Copy)]
 pub enum FactsRead {
     Says { set: LiteralSet, next: usize },
     Refused { number: u8, place: usize },

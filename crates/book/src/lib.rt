@@ -1,4 +1,6 @@
 // The reader of a whole book: its records in a row, and what is kept of them.
+#![tactic(auto)]
+
 ghost use Rattle.std.specs.Prelude.{◌≡◌, ◌≤◌, length, []};
 ghost use Rattle.sets.specs.Sets.{width};
 ghost use Rattle.records.specs.Limits.{max_rules};
@@ -17,21 +19,21 @@ use records::header::HeaderRead;
 use records::{RuleWindow, header};
 
 // Several records in a row: the place after them, or the first refusal.
-#[derive(Drop)]
+#[derive(Clone, Copy)]
 pub enum PlaceAfter {
     At(usize),
     Refused { number: u8, place: usize },
 }
 
 // Whether bytes are a proper order book; if not, the refusal's number and place.
-#[derive(Drop)]
+#[derive(Clone, Copy)]
 pub enum Verdict {
     Accepted,
     Refused { number: u8, place: usize },
 }
 
 // An accepted book, or a refusal beside the empty book: an enum cannot hold the book's arrays.
-#[derive(Drop)]
+#[derive(Clone, Copy)]
 pub struct Reading {
     pub verdict: Verdict,
     pub book: Book,

@@ -13,14 +13,14 @@ use records::windows::WindowRead;
 use records::{Book, RuleWindow, mark};
 
 // When a rule applies and the place after its WN, or the refusal.
-#[derive(Drop)]
+#[derive(Clone, Copy)]
 enum WindowFrom {
     Says { applies: Applies, next: usize },
     Refused { number: u8, place: usize },
 }
 
 // One rule and the place after it and its WN, or the first refusal.
-#[derive(Drop)]
+#[derive(Clone, Copy)]
 enum RuleFrom {
     Says {
         set: LiteralSet,
@@ -34,7 +34,7 @@ enum RuleFrom {
 }
 
 // The rules as two parallel arrays of masks and their windows, with the place after them or the first refusal.
-#[derive(Drop)]
+#[derive(Clone, Copy)]
 pub struct RulesRead {
     pub after: PlaceAfter,
     pub yes: [u64; Book::MAX_RULES],

@@ -5,14 +5,14 @@ use samples::limits;
 
 // How many models were found, the literals over choices that are true in each of them, and whether none is left that denies
 // one of these. Before the first model, every literal over a choice is kept.
-#[derive(Drop)]
+#[derive(Clone, Copy)]
 pub struct Run {
     pub models: u32,
     pub kept: Literals,
     pub ended: bool,
 }
 
-#[derive(Drop)]
+#[derive(Clone, Copy)]
 pub enum Found {
     Model(u64),
     Nothing,

@@ -4,7 +4,7 @@ use samples::{limits, order};
 
 // The fillings that obey every rule of a book of up to twenty variables, at the start of a room, and whether they are all
 // of them: books of up to ten variables have no more than there is room for.
-#[derive(Drop)]
+#[derive(Clone, Copy)]
 pub struct Fillings {
     pub room: [u64; Fillings::ROOM],
     pub count: usize,
@@ -18,7 +18,7 @@ impl Fillings {
 }
 
 // Literals: the variables said yes of and those said no of.
-#[derive(Drop)]
+#[derive(Clone, Copy)]
 pub struct Literals {
     pub yes: u64,
     pub no: u64,

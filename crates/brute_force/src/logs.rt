@@ -7,7 +7,7 @@ use samples::reckon::Reckoned;
 use samples::{build, edits, limits};
 
 // The log so far: what is known after it, the steps in it, what they cost, and whether OK has been put.
-#[derive(Drop)]
+#[derive(Clone, Copy)]
 pub struct Log {
     pub written: Draft,
     pub known: Literals,

@@ -4,7 +4,7 @@ use crate::fillings::Fillings;
 use samples::reckon::Reckoned;
 
 // The set, and whether it is whole: there are bits for ten choices, and twenty variables are gone through.
-#[derive(Drop)]
+#[derive(Clone, Copy)]
 pub struct Restricted {
     pub bits: [u64; Restricted::WORDS],
     pub whole: bool,

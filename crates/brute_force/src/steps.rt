@@ -6,7 +6,7 @@ use samples::limits;
 // A goal and a set of known literals: what the two cost, how many literals the set has, and the goal's variable and those
 // of the set as masks. Masks of one variable are in the order of the variables, and a mask is the sum of 2^(v-1) over its
 // variables v.
-#[derive(Drop)]
+#[derive(Clone, Copy)]
 pub struct Candidate {
     pub found: bool,
     pub cost: u64,
@@ -18,14 +18,14 @@ pub struct Candidate {
 }
 
 // The best so far, and the best in the order before E6, which leaves out the number of facts.
-#[derive(Drop)]
+#[derive(Clone, Copy)]
 struct Best {
     now: Candidate,
     before: Candidate,
 }
 
 // The step, or that nothing is left. The goal is a set of one literal.
-#[derive(Drop)]
+#[derive(Clone, Copy)]
 pub struct Taken {
     pub found: bool,
     pub goal: Literals,
@@ -39,7 +39,7 @@ pub struct Taken {
 }
 
 // A set of known literals, by its variables too, how many they are, and what they cost.
-#[derive(Drop)]
+#[derive(Clone, Copy)]
 struct Set {
     from: u64,
     literals: Literals,

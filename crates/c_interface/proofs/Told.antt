@@ -21,7 +21,7 @@ use Rattle.consequence.specs.Meaning.{has_model, consequence_of}
 use Rattle.step.specs.Meaning.{question_of, Answer, nothing_left, step, step_of}
 use Rattle.log_form.specs.Format.{log_bytes}
 use Rattle.log_form.specs.Restarts.{is_begun}
-use Rattle.log.specs.Meaning.{run_for, log_of}
+use Rattle.log_writer.specs.Meaning.{run_for, log_of}
 use Rattle.dimacs.specs.Import.{imported, import_answer, buffer_after}
 use Rattle.dimacs.specs.declared.Imported.{Imported}
 use Rattle.dimacs.specs.declared.Imported.TheVariants as Imported

@@ -1,6 +1,8 @@
 // The engine for C: one exported function for each public call of `engine`, with what it answers behind pointers. Each returns 0 for done, or the refusal
 // as one number, and after a refusal nothing behind a pointer has changed. None asks anything of its caller that Rattle can say; what a pointer and a
 // length from C must be is said in host/why.h.
+#![tactic(auto)]
+
 ghost use Rattle.std.specs.Prelude.{◌≡◌, map};
 ghost use Rattle.c_interface.specs.Seen.{code, as_moment, window_row, kept_row, as_book, as_literals, as_step, as_log, seen_step, seen_log};
 ghost use Rattle.c_interface.specs.Promises.{outcome_of, Passed};
@@ -199,7 +201,7 @@ pub extern "C" fn why_consequence(
 }
 
 // A step as C sees it.
-#[derive(Drop)]
+#[derive(Clone, Copy)]
 pub struct StepShown {
     pub goal: i8,
     pub reasons: LiteralSet,
@@ -208,7 +210,7 @@ pub struct StepShown {
 }
 
 // What an answer on the next step comes to for C.
-#[derive(Drop)]
+#[derive(Clone, Copy)]
 enum StepOutcome {
     Done(StepShown),
     Refusal { number: u8, place: usize },

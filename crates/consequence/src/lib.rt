@@ -5,6 +5,8 @@
 // counted, so that it can be said how many were found. It differs in how the clause of line 5 is put: the search keeps no
 // clause from one call to the next, so that the clause is one rule more for one search, which wants no blocking variable (lines
 // 3 and 8), and the clauses of earlier rounds are left out, because the last one implies them.
+#![tactic(auto)]
+
 ghost use Rattle.std.specs.Prelude.{◌≡◌, [], ◌∷◌, ◌++◌, ◌+◌, ◌^◌, ◌<◌, ◌≤◌, length, take};
 ghost use Rattle.problem.specs.Limits.{most_rules};
 ghost use Rattle.problem.specs.Masked.{yes_in, no_in, Searchable};
@@ -17,7 +19,7 @@ use problem::MaskedProblem;
 use sat::{Partial, SearchResult};
 
 // That there is no model, or the literals kept at the end, and how many models were found for it.
-#[derive(Drop)]
+#[derive(Clone, Copy)]
 pub enum Consequence {
     NoModel,
     Forced { kept: LiteralSet, models: u32 },

@@ -1,5 +1,7 @@
 // Writes to standard output what is printed for an input, a moment and a book, and the book that is made of a DIMACS CNF text;
 // opens stored files.
+#![tactic(auto)]
+
 use dimacs::Imported;
 use printing::Printed;
 use records::Book;

@@ -1,4 +1,6 @@
 // Dates of 2000 to 2099, the moment of a call, and the window of a rule: which of them can be, and when a rule is in force.
+#![tactic(auto)]
+
 ghost use Rattle.std.specs.Prelude.{◌≡◌, not, ◌&&◌};
 ghost use Rattle.dates.specs.Calendar as calendar;
 ghost use Rattle.dates.specs.Windows as windows;
@@ -8,7 +10,7 @@ mod days;
 pub use days::{day_number, weekday};
 
 // A day of the calendar: the month and the day counted from 1.
-#[derive(Drop)]
+#[derive(Clone, Copy)]
 pub struct Date {
     pub year: u16,
     pub month: u8,
@@ -16,7 +18,7 @@ pub struct Date {
 }
 
 // When a call is made: the day, and the minute of the day.
-#[derive(Drop)]
+#[derive(Clone, Copy)]
 pub struct Moment {
     pub date: Date,
     pub minute: u16,
@@ -24,7 +26,7 @@ pub struct Moment {
 
 // When a rule applies that has a WN record: from the first day on and before the end day, on the weekdays whose bits are set
 // (the lowest is Monday's), from the first minute of the day on and before the end minute.
-#[derive(Drop)]
+#[derive(Clone, Copy)]
 pub struct Window {
     pub first_day: Date,
     pub end_day: Date,
@@ -34,7 +36,7 @@ pub struct Window {
 }
 
 // When a rule applies: always where it has no WN record.
-#[derive(Drop)]
+#[derive(Clone, Copy)]
 pub enum Applies {
     Always,
     During(Window),

@@ -7,7 +7,7 @@ ghost use Rattle.book.specs.Promises.{place_answer};
 use book::PlaceAfter;
 
 // Kinds of bytes: this byte, blanks, blanks and line ends, all but line ends, digits, digits from 1 to 9.
-#[derive(Drop)]
+#[derive(Clone, Copy)]
 pub enum Class {
     Is(u8),
     Blank,

@@ -11,14 +11,14 @@ use book::PlaceAfter;
 use literals::LiteralSet;
 use records::Book;
 
-#[derive(Drop)]
+#[derive(Clone, Copy)]
 pub enum ClauseRead {
     Says { set: LiteralSet, next: usize },
     Refused { number: u8, place: usize },
 }
 
 // The kept clauses as two parallel arrays of masks, with the place after all clauses or the first refusal.
-#[derive(Drop)]
+#[derive(Clone, Copy)]
 pub struct ClausesRead {
     pub after: PlaceAfter,
     pub kept: usize,

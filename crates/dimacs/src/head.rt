@@ -14,7 +14,7 @@ const P: [u8; 1] = *b"p";
 
 const CNF: [u8; 3] = *b"cnf";
 
-#[derive(Drop)]
+#[derive(Clone, Copy)]
 pub enum HeadRead {
     Says {
         variables: usize,

@@ -1,4 +1,6 @@
 // Rules from a DIMACS CNF text: the text is read whole, and then the book is put into the lent buffer.
+#![tactic(auto)]
+
 ghost use Rattle.std.specs.Prelude.{◌≡◌, ◌≤◌, length};
 ghost use Rattle.records.specs.Limits.{max_variables, max_rules};
 ghost use Rattle.records.specs.Format.{refused};
@@ -18,14 +20,14 @@ use head::HeadRead;
 use records::Book;
 
 // The length of the book that was written, or the refusal.
-#[derive(Drop)]
+#[derive(Clone, Copy)]
 pub enum Imported {
     Written(usize),
     Refused { number: u8, place: usize },
 }
 
 // V and the kept clauses of a text, or the first refusal: an enum cannot hold the arrays.
-#[derive(Drop)]
+#[derive(Clone, Copy)]
 struct TextRead {
     after: PlaceAfter,
     variables: usize,

@@ -11,13 +11,13 @@ use book::PlaceAfter;
 // A number this large is over every limit: the digits after it are passed over and change nothing.
 const TOO_LARGE: usize = 1000;
 
-#[derive(Drop)]
+#[derive(Clone, Copy)]
 pub enum NumberRead {
     Says { value: usize, next: usize },
     Refused { number: u8, place: usize },
 }
 
-#[derive(Drop)]
+#[derive(Clone, Copy)]
 pub enum LiteralRead {
     Says { literal: i8, next: usize },
     Refused { number: u8, place: usize },

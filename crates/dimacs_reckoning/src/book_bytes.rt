@@ -7,7 +7,7 @@ use samples::{build, edits, limits};
 
 // How many clauses a text has, how many of them are dropped, have no literals, have a repeat, and have literals that
 // are put in another order.
-#[derive(Drop)]
+#[derive(Clone, Copy)]
 pub struct Kinds {
     pub clauses: u64,
     pub dropped: u64,
@@ -17,7 +17,7 @@ pub struct Kinds {
 }
 
 // The bytes so far, the clause that is gone through, and how many clauses are kept.
-#[derive(Drop)]
+#[derive(Clone, Copy)]
 pub struct Made {
     pub book: Draft,
     pub clause: Clause,

@@ -3,7 +3,7 @@ use samples::build;
 
 // The different literals, in rising order of their variables, at the start of a room for all of them; whether one of them
 // and its opposite came; and whether one came twice, or after one of a later variable.
-#[derive(Drop)]
+#[derive(Clone, Copy)]
 pub struct Clause {
     pub literals: [u8; Clause::ROOM],
     pub count: usize,

@@ -38,7 +38,7 @@ pub const CLOSED: u8 = 14;
 pub const WRONG: u8 = 15;
 
 // What is remembered from one byte to the next.
-#[derive(Drop)]
+#[derive(Clone, Copy)]
 pub struct Machine {
     pub state: u8,
     pub at: usize,

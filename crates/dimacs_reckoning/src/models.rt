@@ -38,7 +38,7 @@ const NOTHING: u8 = 5;
 
 // A walk over the bytes of a book behind its costs: what the next byte is, how many literals of the rule in hand are to
 // come and whether one of them was true, how many rules came, and whether each of them was obeyed.
-#[derive(Drop)]
+#[derive(Clone, Copy)]
 struct Walk {
     state: u8,
     left: u8,

@@ -7,7 +7,7 @@ use samples::build;
 
 // A text as reckoned: number 0 where it is of the form, else the refusal. The numbers of its clauses stand one after
 // another as in the text, each clause with its closing 0.
-#[derive(Drop)]
+#[derive(Clone, Copy)]
 pub struct Reckoned {
     pub number: u8,
     pub place: usize,

@@ -4,7 +4,7 @@ use samples::build;
 use samples::build::Draft;
 
 // The bytes put so far, at the start of a room.
-#[derive(Drop)]
+#[derive(Clone, Copy)]
 pub struct Long {
     pub bytes: [u8; Long::ROOM],
     pub len: usize,

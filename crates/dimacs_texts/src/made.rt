@@ -5,7 +5,7 @@ use samples::{build, random};
 
 // What a file is like: how many variables and clauses, how many literals a clause has, twice as many in some, whether clauses
 // of no literals are among them; and a filling that most literals are true in, so that not all long clauses are dropped.
-#[derive(Drop)]
+#[derive(Clone, Copy)]
 pub struct Shape {
     pub variables: u8,
     pub clauses: u8,

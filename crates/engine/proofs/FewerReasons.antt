@@ -7,8 +7,8 @@ use Rattle.literals.specs.declared.LiteralSet.{LiteralSet}
 use Rattle.records.specs.Format.{Read, value, refused}
 use Rattle.problem.specs.Problem.{Problem}
 use Rattle.step.specs.Theorems.{changes_exactly}
-use Rattle.log.specs.Laws.OneStep.{choices_below, forced}
-use Rattle.log.specs.Laws.Explains.{consistent}
+use Rattle.log_writer.specs.Laws.OneStep.{choices_below, forced}
+use Rattle.log_writer.specs.Laws.Explains.{consistent}
 use Rattle.engine.specs.Calls.{posed}
 use Rattle.engine.specs.FewerReasons.{StepChanges}
 use Rattle.engine.proofs.PosedLaws.{posed_proper}

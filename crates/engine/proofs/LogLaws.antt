@@ -33,11 +33,11 @@ use Rattle.log_form.specs.Format.{Log, log_bytes, is_log, read_log}
 use Rattle.log_form.specs.Promises.{WrittenWhole}
 use Rattle.log_form.specs.Restarts.{is_begun, Begun}
 use Rattle.log_form.specs.Laws.Restarts.{begun_true, begun_is, begun_false, begun_none}
-use Rattle.log.specs.Meaning.{run_of, run_for, log_of}
-use Rattle.log.specs.Promises.{LogWritten}
-use Rattle.log.specs.Laws.Explains.{explained, reads_back}
-use Rattle.log.specs.declared.Written.{Written}
-use Rattle.log.specs.Laws.OneStep.{forced}
+use Rattle.log_writer.specs.Meaning.{run_of, run_for, log_of}
+use Rattle.log_writer.specs.Promises.{LogWritten}
+use Rattle.log_writer.specs.Laws.Explains.{explained, reads_back}
+use Rattle.log_writer.specs.declared.Written.{Written}
+use Rattle.log_writer.specs.Laws.OneStep.{forced}
 use Rattle.engine.specs.Calls.{read_at, posed, with_model, NineExactly, LogOutcome, logged, refused_with, log_outcome, log_answer, buffer_after, LoggedAs}
 use Rattle.engine.specs.Calls.{Explains, LogCall, resumed, resumed_outcome, Resumes, ResumeCall}
 use Rattle.engine.specs.Promises.{theory_in, forced_in, Loggable, LogReady, log_in, PutLog}
@@ -69,7 +69,7 @@ unfolding log_answer buffer_after
 put_as true l e f = record { answered = e; buffer = f }
 put_as false l e f = record { answered = e; buffer = f }
 
--- ---- what `log::write` answers, passed on
+-- ---- what `log_writer::write` answers, passed on
 
 pub logged_written : {ss : List Step} {before after : List ℕ} {r : Written} → LogWritten ss before after r
     → LoggedAs (logged (log_of ss)) before after (LogAnswer.Written r.size r.steps r.total)

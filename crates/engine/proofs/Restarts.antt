@@ -17,7 +17,7 @@ use Rattle.consequence.specs.Meaning.{has_model}
 use Rattle.log_form.specs.Format.{Log, log_bytes}
 use Rattle.log_form.specs.Restarts.{written_up_to, is_begun, Begun}
 use Rattle.log_form.specs.Laws.Restarts.{begun_true, begun_is, begun_not}
-use Rattle.log.specs.Meaning.{run_for, log_of}
+use Rattle.log_writer.specs.Meaning.{run_for, log_of}
 use Rattle.engine.specs.Calls.{posed, with_model, LogOutcome, logged, refused_with, log_outcome, log_answer, buffer_after, LoggedAs, LogCall}
 use Rattle.engine.specs.Calls.{resumed, resumed_outcome, ResumeCall}
 use Rattle.engine.specs.Restarts.{CarriesOn}

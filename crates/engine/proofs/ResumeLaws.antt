@@ -15,7 +15,7 @@ use Rattle.records.specs.Format.{Read, value, refused}
 use Rattle.problem.specs.Problem.{Problem}
 use Rattle.log_form.specs.Format.{Log, log_bytes}
 use Rattle.log_form.specs.Restarts.{is_begun}
-use Rattle.log.specs.Meaning.{run_for, log_of}
+use Rattle.log_writer.specs.Meaning.{run_for, log_of}
 use Rattle.engine.specs.Calls.{posed, with_model, LogOutcome, logged, refused_with, log_outcome, log_answer, buffer_after, LoggedAs, LogCall}
 use Rattle.engine.specs.Calls.{resumed, resumed_outcome, ResumeCall}
 use Rattle.engine.specs.Promises.{PutLog}

@@ -28,8 +28,8 @@ use Rattle.consequence.specs.Laws.Problems.{model_filling, filling_model, no_fil
 use Rattle.consequence.specs.Laws.SameFillings.{agreeing_model, theories_same, given_same, same_has_model, same_consequence}
 use Rattle.step.specs.Meaning.{question_of, Step, step_of}
 use Rattle.log_form.specs.Format.{Log, log_bytes}
-use Rattle.log.specs.Meaning.{run_for, log_of}
-use Rattle.log.specs.Laws.SameFillings.{same_next, same_run}
+use Rattle.log_writer.specs.Meaning.{run_for, log_of}
+use Rattle.log_writer.specs.Laws.SameFillings.{same_next, same_run}
 use Rattle.engine.specs.Calls.{posed, with_model, first_model, model_answer, ModelCall, consequence_answer, ConsequenceCall, between}
 use Rattle.engine.specs.Calls.{step_says, step_for, step_answer, StepCall, LogOutcome, logged, refused_with, log_outcome, log_answer, buffer_after, LoggedAs}
 use Rattle.engine.specs.Calls.{LogCall}

@@ -34,10 +34,10 @@ use Rattle.step.specs.declared.Next.{Next}
 use Rattle.step.specs.declared.Next.TheVariants as Next
 use Rattle.step.specs.Laws.Given as facts
 use Rattle.step.specs.Laws.Known.{cond_not}
-use Rattle.log.specs.Promises.{put_step}
-use Rattle.log.specs.Laws.OneStep.{choices_below, forced}
-use Rattle.log.specs.Laws.Explains.{consistent}
-use Rattle.log.proofs.RunLaws.{of_parts}
+use Rattle.log_writer.specs.Promises.{put_step}
+use Rattle.log_writer.specs.Laws.OneStep.{choices_below, forced}
+use Rattle.log_writer.specs.Laws.Explains.{consistent}
+use Rattle.log_writer.proofs.RunLaws.{of_parts}
 use Rattle.engine.specs.Calls.{read_at, posed, with_model, between, step_says, step_for, step_answer, IsNext, StepCall}
 use Rattle.engine.specs.Promises.{theory_in, forced_in, FoundForced, step_in, Steppable, StepReady}
 use Rattle.engine.specs.declared.ConsequenceAnswer.{ConsequenceAnswer}

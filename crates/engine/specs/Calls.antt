@@ -16,8 +16,8 @@ use Rattle.step.specs.Meaning.{question_of, Answer, nothing_left, step, step_of}
 use Rattle.step.specs.IsStep.{Between, IsStep}
 use Rattle.log_form.specs.Format.{Log, log_bytes}
 use Rattle.log_form.specs.Restarts.{is_begun, Begun}
-use Rattle.log.specs.Meaning.{run_for, log_of}
-use Rattle.log.specs.Demand3.{Explained}
+use Rattle.log_writer.specs.Meaning.{run_for, log_of}
+use Rattle.log_writer.specs.Demand3.{Explained}
 use Rattle.engine.specs.declared.ModelAnswer.{ModelAnswer}
 use Rattle.engine.specs.declared.ModelAnswer.TheVariants as ModelAnswer
 use Rattle.engine.specs.declared.ConsequenceAnswer.{ConsequenceAnswer}

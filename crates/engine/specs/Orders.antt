@@ -25,7 +25,7 @@ use Rattle.step.specs.Meaning.{is_candidate, candidate_cost, before, earlier, fi
 use Rattle.step.specs.Meaning.{the_step, Answer, new_on, new_off, step_from, answer_with, step_of}
 use Rattle.step.specs.LowerGoalFirst.{lower_goal_first, lower_goal_candidate, lower_goal_step}
 use Rattle.log_form.specs.Format.{list_bytes, two_bytes, four_bytes, record_bytes, records_bytes, ok_bytes, log_bytes}
-use Rattle.log.specs.Meaning.{costs_written, with_new, run_from, run_of, run_for}
+use Rattle.log_writer.specs.Meaning.{costs_written, with_new, run_from, run_of, run_for}
 use Rattle.engine.specs.Calls.{read_at, posed, with_model, first_model, model_answer, consequence_answer, between, step_says, step_for, step_answer}
 use Rattle.engine.specs.Calls.{log_outcome, log_answer, buffer_after}
 use Rattle.engine.specs.declared.ModelAnswer.{ModelAnswer}

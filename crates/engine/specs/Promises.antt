@@ -14,8 +14,8 @@ use Rattle.consequence.specs.Promises.{mask_theory}
 use Rattle.step.specs.Meaning.{Question, asking, Answer, step_of}
 use Rattle.step.specs.Promises.{Asked}
 use Rattle.log_form.specs.Restarts.{is_begun}
-use Rattle.log.specs.Meaning.{run_of, log_of}
-use Rattle.log.specs.Promises.{LogAsked}
+use Rattle.log_writer.specs.Meaning.{run_of, log_of}
+use Rattle.log_writer.specs.Promises.{LogAsked}
 use Rattle.engine.specs.Calls.{between, step_says, LogOutcome, logged, refused_with}
 use Rattle.engine.specs.declared.StepAnswer.{StepAnswer}
 use Rattle.engine.specs.declared.StepAnswer.TheVariants as StepAnswer

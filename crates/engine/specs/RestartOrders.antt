@@ -6,7 +6,7 @@ use Rattle.records.specs.Limits.{max_log}
 use Rattle.book.specs.Orders.{order_c, order_e}
 use Rattle.log_form.specs.Format.{list_bytes, two_bytes, four_bytes, record_bytes, records_bytes, ok_bytes, log_bytes}
 use Rattle.log_form.specs.Restarts.{is_prefix, is_begun}
-use Rattle.log.specs.Meaning.{costs_written, with_new, run_from, run_of, run_for}
+use Rattle.log_writer.specs.Meaning.{costs_written, with_new, run_from, run_of, run_for}
 use Rattle.engine.specs.Calls.{posed, with_model, log_outcome, log_answer, buffer_after, resumed, resumed_outcome}
 use Rattle.engine.specs.Orders.{noon, computed, read_and_posed}
 use Rattle.engine.specs.declared.LogAnswer.{LogAnswer}

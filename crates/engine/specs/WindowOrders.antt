@@ -4,7 +4,7 @@ use Rattle.dates.specs.Calendar.{date_of}
 use Rattle.dates.specs.declared.Moment.{Moment}
 use Rattle.dates.specs.declared.Window.{Window}
 use Rattle.log_form.specs.Format.{list_bytes, two_bytes, four_bytes, record_bytes, records_bytes, ok_bytes, log_bytes}
-use Rattle.log.specs.Meaning.{costs_written, with_new, run_from, run_of, run_for}
+use Rattle.log_writer.specs.Meaning.{costs_written, with_new, run_from, run_of, run_for}
 use Rattle.sets.specs.Sets.{members_from, members_below, members}
 use Rattle.literals.specs.Literal.{byte_of, literals_of}
 use Rattle.book.specs.Orders.{order_a, one_rule, season, window_bytes}

@@ -1,11 +1,13 @@
 // The public calls. Each is handed the book's bytes and reads them first, after it has looked at the moment; none asks anything of
 // its caller.
+#![tactic(auto)]
+
 ghost use Rattle.std.specs.Prelude.{◌≡◌, ◌≤◌, length};
 ghost use Rattle.records.specs.Limits.{max_log};
 ghost use Rattle.records.specs.Format.{read_book};
 ghost use Rattle.book.specs.Answer.{book_answer, table_answer};
 ghost use Rattle.problem.specs.Masked.{Searchable};
-ghost use Rattle.log.specs.Meaning.{run_of, log_of};
+ghost use Rattle.log_writer.specs.Meaning.{run_of, log_of};
 ghost use Rattle.engine.specs.Calls.{read_at, ModelCall, ConsequenceCall, StepCall, LogCall, logged, LoggedAs, ResumeCall};
 ghost use Rattle.engine.specs.Promises.{FoundModel, FoundForced, Loggable, LogReady, log_in, log_question, PutLog};
 ghost use Rattle.engine.specs.Dimacs.{DimacsCall};
@@ -20,21 +22,21 @@ use literals::LiteralSet;
 use problem::MaskedProblem;
 
 // The first model of the book, or the refusal.
-#[derive(Drop)]
+#[derive(Clone, Copy)]
 pub enum ModelAnswer {
     Model(u64),
     Refused { number: u8, place: usize },
 }
 
 // The consequence, or the refusal.
-#[derive(Drop)]
+#[derive(Clone, Copy)]
 pub enum ConsequenceAnswer {
     Forced(LiteralSet),
     Refused { number: u8, place: usize },
 }
 
 // The next step, that nothing is left, or the refusal.
-#[derive(Drop)]
+#[derive(Clone, Copy)]
 pub enum StepAnswer {
     Step {
         goal: i8,
@@ -50,7 +52,7 @@ pub enum StepAnswer {
 }
 
 // The log's length, its number of steps and its total, or the refusal.
-#[derive(Drop)]
+#[derive(Clone, Copy)]
 pub enum LogAnswer {
     Written { size: usize, steps: u8, total: u32 },
     Refused { number: u8, place: usize },
@@ -226,7 +228,7 @@ fn write_log(
     let yes = p.yes;
     let no = p.no;
     let rules = p.rules;
-    let written = log::write(
+    let written = log_writer::write(
         p.variables,
         &yes[..rules],
         &no[..rules],

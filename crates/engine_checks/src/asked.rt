@@ -7,7 +7,7 @@ use literals::LiteralSet;
 use samples::windows::Moment;
 
 // What the engine says: the refusal, or number 0 and the step. The step is not found where nothing is left.
-#[derive(Drop)]
+#[derive(Clone, Copy)]
 pub struct Said {
     pub number: u8,
     pub place: usize,

@@ -5,7 +5,7 @@ use samples::windows::Moment;
 use samples::{build, limits};
 
 // What the engine answered to a call for the log, number 0 where it wrote one, and the room in which its buffer lay.
-#[derive(Drop)]
+#[derive(Clone, Copy)]
 pub struct Answered {
     pub room: [u8; ROOM],
     pub number: u8,

@@ -11,7 +11,7 @@ use samples::{build, reckon, windows};
 
 // What is due of a book, or said of its consequence: the refusal, or number 0 and what follows. The first model is due only,
 // and held against what `engine::model` says.
-#[derive(Drop)]
+#[derive(Clone, Copy)]
 pub struct Due {
     pub number: u8,
     pub place: usize,

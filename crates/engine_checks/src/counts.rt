@@ -1,7 +1,7 @@
 // How often something was tried, and how often it was not as counted.
 use crate::report;
 
-#[derive(Drop)]
+#[derive(Clone, Copy)]
 pub struct Counts {
     pub tried: u64,
     pub differ: u64,

@@ -1,5 +1,7 @@
 // The engine's answers held against the reckoning, and what is counted and reported of them: what the test programs of the search
 // share.
+#![tactic(auto)]
+
 pub mod asked;
 pub mod asked_log;
 pub mod compare;

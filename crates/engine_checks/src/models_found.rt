@@ -9,7 +9,7 @@ use samples::reckon::Reckoned;
 use samples::windows::Moment;
 
 // The fewest models and the most.
-#[derive(Drop)]
+#[derive(Clone, Copy)]
 pub struct Bounds {
     pub least: u32,
     pub most: u32,

@@ -149,7 +149,7 @@ pub const KINDS: usize = FOUND_IN_ALL + 3;
 
 // Of each group: how often the engine was asked, and how often its answer was not what is due. Of each kind of book, step
 // or log, as reckoned: how many there were.
-#[derive(Drop)]
+#[derive(Clone, Copy)]
 pub struct Tally {
     pub tried: [u64; GROUPS],
     pub differ: [u64; GROUPS],

@@ -12,7 +12,7 @@ use samples::windows::Moment;
 use samples::{build, limits, random, reckon, windows};
 
 // What is reckoned of a book once; the choices as a number and as a mask.
-#[derive(Drop)]
+#[derive(Clone, Copy)]
 pub struct Case {
     pub costs: [u16; limits::COSTS],
     pub count: usize,
@@ -54,7 +54,7 @@ pub fn seen_changed(before: Tally, t: Tally) -> Tally {
 }
 
 // The way and its log as reckoned, the engine asked at each known set.
-#[derive(Drop)]
+#[derive(Clone, Copy)]
 pub struct Way {
     pub tally: Tally,
     pub log: Log,

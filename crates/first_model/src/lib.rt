@@ -1,6 +1,8 @@
 // The first model: of the fillings that extend a partial filling and obey every rule, the first one in the order with variable
 // 1 weightiest and no before yes. The search for a model branches as it likes, so that any model may come first; then it is
 // asked variable by variable, from variable 1 on, for one that says no.
+#![tactic(auto)]
+
 ghost use Rattle.std.specs.Prelude.{◌+◌, ◌≤◌};
 ghost use Rattle.sets.specs.Sets.{width};
 ghost use Rattle.sat.specs.Meaning.{Model};

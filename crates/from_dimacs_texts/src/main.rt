@@ -1,4 +1,5 @@
 // `from_dimacs` on stored texts: each text's name, and what the function that `from_dimacs` calls writes for it.
+#![tactic(auto)]
 
 // The text in a file of the folder that the program runs in.
 fn text(path: &[u8]) {

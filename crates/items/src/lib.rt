@@ -1,5 +1,7 @@
 // Sets of costed items: element v of a mask is item v, and `weights[v]` is what it weighs. What the search for a cheapest set
 // does with weights, whatever the items are.
+#![tactic(auto)]
+
 ghost use Rattle.std.specs.Prelude.{◌<◌};
 ghost use Rattle.items.specs.Promises.{Rows, AtMostEach, Enough, TakenOff, Lighter, CheapestItem};
 
@@ -53,7 +55,7 @@ fn take_off(left: &mut [u64], set: u64, amount: u64) -> u64
 }
 
 // What was taken off, and the items that then weigh nothing.
-#[derive(Drop)]
+#[derive(Clone, Copy)]
 pub struct Taken {
     pub amount: u64,
     pub spent: u64,

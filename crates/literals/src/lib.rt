@@ -1,4 +1,6 @@
 // Literals as signed bytes, and sets of literals as two masks.
+#![tactic(auto)]
+
 ghost use Rattle.std.specs.Prelude.{◌≡◌, ◌≤◌, ◌<◌};
 ghost use Rattle.sets.specs.Sets.{width};
 ghost use Rattle.literals.specs.Literal.{variable, of_byte, byte_of};
@@ -37,7 +39,7 @@ pub fn to_byte(l: i8) -> u8
 }
 
 // A set of literals: the variables that it says yes of, and those that it says no of. Bit v - 1 stands for variable v.
-#[derive(Drop)]
+#[derive(Clone, Copy)]
 pub struct LiteralSet {
     pub yes: u64,
     pub no: u64,

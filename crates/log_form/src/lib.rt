@@ -1,4 +1,6 @@
 // The form of a log: putting its records into a buffer.
+#![tactic(auto)]
+
 ghost use Rattle.sets.specs.Sets.{width};
 ghost use Rattle.std.specs.Prelude.{◌≡◌, [], ◌∷◌, ◌+◌, ◌<◌, ◌≤◌, length};
 ghost use Rattle.literals.specs.Literal.{literals_of};

@@ -36,7 +36,7 @@ fn choice_gate(d: Draft, a: u8, out: u8, b: u8) -> Draft {
 }
 
 // The two literals of a gate, its output, and the generator's state after it.
-#[derive(Drop)]
+#[derive(Clone, Copy)]
 struct Gate {
     low: u8,
     high: u8,

@@ -4,7 +4,7 @@ use samples::build::Draft;
 
 // What is drawn: a rule over the choices of a book with a core, one over two of so many variables, one of a book with ties,
 // one of a book with several reasons.
-#[derive(Drop)]
+#[derive(Clone, Copy)]
 pub enum Rule {
     Open,
     Pair(u8),

@@ -1,4 +1,6 @@
 // Books made up, of several kinds, each from a seed.
+#![tactic(auto)]
+
 mod circuits;
 mod cores;
 mod covers;
@@ -17,7 +19,7 @@ use samples::{edits, random};
 
 // Good books of any shape, the same edited, books with a model planted, with many rules, with a hidden core, with a
 // yes in each of many pairs, with many ties, with several reasons for each of several goals, circuits.
-#[derive(Drop)]
+#[derive(Clone, Copy)]
 pub enum Form {
     Any,
     Edited,
@@ -32,7 +34,7 @@ pub enum Form {
 
 // Up to so many variables and choices and costs up to `cost`; books with a core or with ties have their own, those with
 // several reasons their own variables and choices.
-#[derive(Drop)]
+#[derive(Clone, Copy)]
 pub struct Kind {
     pub form: Form,
     pub variables: u8,

@@ -3,7 +3,7 @@ use samples::build::Draft;
 use samples::{build, limits, random};
 
 // What a book that is made up is like. Where there is no variable its rules have no literals.
-#[derive(Drop)]
+#[derive(Clone, Copy)]
 pub struct Shape {
     pub variables: u8,
     pub choices: u8,

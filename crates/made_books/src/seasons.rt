@@ -3,7 +3,7 @@ use samples::windows::Window;
 use samples::{calendar, limits, random, windows};
 
 // What a window leaves out: nothing, since there is none; days; weekdays; minutes of the day; all three; any of these.
-#[derive(Drop)]
+#[derive(Clone, Copy)]
 pub enum Season {
     Never,
     Days,

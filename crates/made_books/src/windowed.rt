@@ -6,7 +6,7 @@ use samples::windows::{Moment, Window};
 use samples::{build, edits, random, windows};
 
 // A book without windows, and the windows that its rules have in turn.
-#[derive(Drop)]
+#[derive(Clone, Copy)]
 pub struct Windowed {
     pub plain: Draft,
     pub windows: [Window; Windowed::WINDOWS],
@@ -20,7 +20,7 @@ impl Windowed {
 }
 
 // How the rules are typed: each with its window, or without windows and only those that are in force at a moment.
-#[derive(Drop)]
+#[derive(Clone, Copy)]
 enum Typing {
     Whole,
     At(Moment),

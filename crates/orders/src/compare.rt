@@ -6,7 +6,7 @@ use samples::{build, reckon};
 // Of a group: how many books were tried, at how many reader and reckoning differed, at how many the reader was not as
 // expected. Of all groups: how many books were reckoned good (entry 0) or refused with each number, and how many hold a rule
 // of no literals, or a window.
-#[derive(Drop)]
+#[derive(Clone, Copy)]
 pub struct Tally {
     pub tried: u64,
     pub differ: u64,

@@ -1,5 +1,7 @@
 // Holds the book reader against an independent reckoning of the format, over books that are built here as bytes, and
 // against the numbers and places of documents 01 and 02. One line for a group: how many books, and at how many the two differ.
+#![tactic(auto)]
+
 mod boundaries;
 mod compare;
 mod groups;

@@ -3,7 +3,7 @@ use dimacs::Imported;
 use samples::{build, limits};
 
 // The answer: number 0 and the book's length, or the refusal; and the room in which the buffer lay, with what it began with.
-#[derive(Drop)]
+#[derive(Clone, Copy)]
 pub struct Answered {
     pub room: [u8; Answered::ROOM],
     pub start: u8,

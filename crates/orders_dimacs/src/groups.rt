@@ -97,7 +97,7 @@ fn made_file(t: Tally, d: Draft) -> Tally {
 }
 
 // What many files are drawn from: the first seed, and up to how many variables, clauses and literals there are.
-#[derive(Drop)]
+#[derive(Clone, Copy)]
 pub struct Source {
     pub seed: u64,
     pub variables: u8,

@@ -2,6 +2,8 @@
 // built here as bytes; against the answers of documents 01 and 02 at the limits; and, over all fillings of small files, the
 // models of the text against those of the book. One line for a group: how many texts, at how many the two differ, and how
 // many were due to become a book or to be refused with each number.
+#![tactic(auto)]
+
 mod asked;
 mod compare;
 mod every_text;

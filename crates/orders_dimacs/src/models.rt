@@ -13,7 +13,7 @@ use samples::{build, limits, order, random, windows};
 
 // How many fillings there are, how many satisfy the file, at how many file and book differ; the first that satisfies it; and
 // the variables that are yes, and no, in all that do.
-#[derive(Drop)]
+#[derive(Clone, Copy)]
 struct Found {
     all: u64,
     models: u64,

@@ -26,7 +26,7 @@ const LOW_OF_TEXT: u8 = 7;
 const LINE_END: u8 = 8;
 
 // The row in hand: what the next byte is taken for, the fields so far, the high half of a byte.
-#[derive(Drop)]
+#[derive(Clone, Copy)]
 struct Row {
     state: u8,
     number: u64,

@@ -50,7 +50,7 @@ pub const LOG: usize = 18;
 pub const GROUPS: usize = LOG + 1;
 
 // How many texts were reckoned to be a book, and refused with 8, 12 and 13.
-#[derive(Drop)]
+#[derive(Clone, Copy)]
 pub struct Numbers {
     pub written: u64,
     pub short: u64,
@@ -60,7 +60,7 @@ pub struct Numbers {
 
 // Of each group: how often the engine was asked, how often its answer was not what is due, and what was due. Of all groups:
 // the clauses of the texts that become a book, and how many texts have a clause that is too long. Of the files of few variables: those with a model, and without.
-#[derive(Drop)]
+#[derive(Clone, Copy)]
 pub struct Tally {
     pub tried: [u64; GROUPS],
     pub differ: [u64; GROUPS],

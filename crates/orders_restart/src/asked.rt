@@ -7,7 +7,7 @@ use samples::build;
 use samples::windows::Moment;
 
 // What a restart leaves: the room in which the buffer lies, the buffer's bytes, and how many of them are said to be as written.
-#[derive(Drop)]
+#[derive(Clone, Copy)]
 pub struct Left {
     pub room: [u8; asked_log::ROOM],
     pub len: usize,

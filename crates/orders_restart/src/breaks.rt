@@ -8,7 +8,7 @@ use samples::windows::Moment;
 use samples::{build, limits, random};
 
 // How each byte is tried: with every kind of junk in both buffers, or once, the kinds and the buffers in turn.
-#[derive(Drop)]
+#[derive(Clone, Copy)]
 pub enum Ways {
     All,
     InTurn,

@@ -1,6 +1,8 @@
 // Holds the call that carries a log on after a restart against logs that are reckoned by brute force and broken at every byte, with
 // junk of several kinds behind the break; and its refusals, which leave every byte of the buffer as it was found. A line for each
 // thing that is compared: how many were tried, and at how many the two differ. Other lines count what was met on the way.
+#![tactic(auto)]
+
 mod asked;
 mod books;
 mod breaks;

@@ -5,7 +5,7 @@ use samples::build::Draft;
 use samples::{build, limits};
 
 // The breaks are counted by place: before the first byte, inside a step's record, between two records, inside OK, after the last byte.
-#[derive(Drop)]
+#[derive(Clone, Copy)]
 pub struct Met {
     pub logs: u64,
     pub shortest: usize,
@@ -30,7 +30,7 @@ pub fn nothing() -> Met {
     }
 }
 
-#[derive(Drop)]
+#[derive(Clone, Copy)]
 enum Place {
     Before,
     InStep,

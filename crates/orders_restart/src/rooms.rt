@@ -5,7 +5,7 @@ use samples::random;
 
 // What stands behind the break: one byte everywhere, the log's own bytes each plus 1, the same moved on by one place, bytes drawn at
 // random, and the log itself with the byte at the break changed.
-#[derive(Drop)]
+#[derive(Clone, Copy)]
 pub enum Junk {
     OneByte,
     PlusOne,

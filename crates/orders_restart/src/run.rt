@@ -4,7 +4,7 @@ use crate::met::Met;
 use engine_checks::counts::Counts;
 use engine_checks::{counts, report};
 
-#[derive(Drop)]
+#[derive(Clone, Copy)]
 pub struct Run {
     pub carried: Counts,
     pub wrong: Counts,

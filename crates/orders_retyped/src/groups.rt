@@ -7,7 +7,7 @@ use samples::random;
 
 // What is asked of each book: the first model, steps and log of the book spread over the most variables; whether the same
 // retyped is answered alike; whether its choices, costs and facts with the rules of the book after it are not.
-#[derive(Drop)]
+#[derive(Clone, Copy)]
 pub enum Task {
     Spread,
     Retyped,

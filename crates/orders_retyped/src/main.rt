@@ -1,6 +1,8 @@
 // Holds the engine's search against an independent reckoning over all fillings, over books that are made of others: small ones
 // spread over the most variables, and books retyped. A line for each thing that is compared: how many were tried, and at how
 // many the two differ. Other lines count what was met on the way.
+#![tactic(auto)]
+
 mod groups;
 mod retyped;
 mod retyped_asked;

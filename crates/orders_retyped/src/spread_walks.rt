@@ -16,7 +16,7 @@ use samples::windows::Moment;
 use samples::{build, limits, random, reckon, windows};
 
 // The small book, what is given of the other choices of the large one, and the moment at which it is asked of.
-#[derive(Drop)]
+#[derive(Clone, Copy)]
 struct Spread {
     small: Small,
     case: Case,
@@ -49,7 +49,7 @@ fn spread_step(small: Small, step: Taken) -> Taken {
 }
 
 // The way and its log in the large book, and the known set in the small one.
-#[derive(Drop)]
+#[derive(Clone, Copy)]
 struct Way {
     tally: Tally,
     known: Literals,

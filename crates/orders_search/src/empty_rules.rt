@@ -19,7 +19,7 @@ fn no_model(t: Tally, d: Draft) -> Tally {
 
 // What the books of a group are like: the rules over the first variables have so many literals, and so many choices are
 // given.
-#[derive(Drop)]
+#[derive(Clone, Copy)]
 struct Like {
     variables: u8,
     choices: u8,

@@ -6,7 +6,7 @@ use samples::build::Draft;
 use samples::random;
 
 // What is asked of each book: its reading, first model and consequence; or its first model, steps and log.
-#[derive(Drop)]
+#[derive(Clone, Copy)]
 pub enum Task {
     Compared,
     Walked,

@@ -12,7 +12,7 @@ use samples::{build, limits, windows};
 
 // A book whose first choices, so many, are given as yes, and its steps: each of them brings the next choice. It follows from
 // one fact, the first from the first and so on, or from a set of facts. The first model says yes only of what follows.
-#[derive(Drop)]
+#[derive(Clone, Copy)]
 struct Large {
     book: Draft,
     givens: u8,

@@ -1,6 +1,8 @@
 // Holds the engine's search against an independent reckoning over all fillings, over books that are built here as bytes.
 // A line for each thing that is compared: how many were tried, and at how many the two differ. Other lines count what
 // was met on the way.
+#![tactic(auto)]
+
 mod counter_logs;
 mod counter_models;
 mod counter_steps;

@@ -11,7 +11,7 @@ use samples::windows::Moment;
 use samples::{build, random, reckon, windows};
 
 // What was compared; and how many moments there were that cannot be, or at which all rules are in force, some, and none.
-#[derive(Drop)]
+#[derive(Clone, Copy)]
 pub struct Run {
     pub tally: Tally,
     pub impossible: u64,

@@ -109,7 +109,7 @@ pub fn orders() -> Counts {
 }
 
 // Dates gone through in their order, and the next day that is due to be met.
-#[derive(Drop)]
+#[derive(Clone, Copy)]
 struct Walk {
     counts: Counts,
     due: Day,

@@ -12,7 +12,7 @@ use samples::windows::Moment;
 use samples::{build, random, reckon, windows};
 
 // What was compared, and at how many moments the log is another one than with all rules in force.
-#[derive(Drop)]
+#[derive(Clone, Copy)]
 pub struct Run {
     pub models: Counts,
     pub consequences: Counts,

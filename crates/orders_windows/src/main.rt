@@ -1,6 +1,8 @@
 // Holds the engine's calendar against days counted one by one, and its answers to books with windows against an independent
 // reckoning of the rules in force, at every edge of each window. A line for each thing that is compared: how many were tried,
 // and at how many the two differ. Other lines count what was met on the way.
+#![tactic(auto)]
+
 mod books;
 mod days;
 mod large;

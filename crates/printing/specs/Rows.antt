@@ -5,7 +5,7 @@ use Rattle.std.specs.Int.Count.{ones}
 use Rattle.sets.specs.Sets.{members_from, members_below, members}
 use Rattle.literals.specs.Literal.{literals_of}
 use Rattle.book.specs.Orders.{order_a, order_b, order_c, order_d, order_e, order_f, order_g, order_h, order_i, order_j}
-use Rattle.log.specs.Meaning.{costs_written, with_new, run_from, run_of, run_for}
+use Rattle.log_writer.specs.Meaning.{costs_written, with_new, run_from, run_of, run_for}
 use Rattle.engine.specs.Calls.{with_model, log_outcome}
 use Rattle.engine.specs.Orders.{noon, computed, read_and_posed}
 use Rattle.printing.specs.Text.{digits, decimal, literal_text, literals_text, step_text, steps_text, done_text, log_text, refusal_text}

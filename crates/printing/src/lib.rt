@@ -1,4 +1,6 @@
 // The printed log (document 01, "The printed log"): the text of a log and of a refusal, put into a lent buffer.
+#![tactic(auto)]
+
 ghost use Rattle.std.specs.Prelude.{◌≡◌, ◌≤◌, length};
 ghost use Rattle.printing.specs.Text.{refusal_text};
 ghost use Rattle.printing.specs.Printed.{moment_size, moment_at, PrintCall};
@@ -19,7 +21,7 @@ pub const MOMENT_SIZE: usize = 6;
 pub const MAX_TEXT: usize = 6 * Book::MAX_LOG;
 
 // The text's length, or that the buffer is too short for a text.
-#[derive(Drop)]
+#[derive(Clone, Copy)]
 pub enum Printed {
     Text(usize),
     Short,

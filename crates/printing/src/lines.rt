@@ -8,7 +8,7 @@ ghost use Rattle.printing.specs.Promises.{LinePut, Printable, LogPut};
 use crate::text;
 
 // The place after a line, and the length of the record that it prints.
-#[derive(Drop)]
+#[derive(Clone, Copy)]
 pub struct Line {
     pub next: usize,
     pub size: usize,

@@ -1,4 +1,6 @@
 // The problem as the code holds it, and how it is made from the rules of a book that are in force, here alone.
+#![tactic(auto)]
+
 ghost use Rattle.sets.specs.Sets.{width};
 ghost use Rattle.std.specs.Prelude.{◌≡◌, ◌≤◌, length, true};
 ghost use Rattle.dates.specs.Windows.{is_moment};
@@ -11,7 +13,7 @@ use literals::LiteralSet;
 
 // The number of variables, the rules as two parallel arrays of masks, the set of choices, and the given facts. Bit v - 1
 // of a mask stands for variable v.
-#[derive(Drop)]
+#[derive(Clone, Copy)]
 pub struct MaskedProblem {
     pub variables: u32,
     pub rules: usize,
@@ -42,7 +44,7 @@ pub fn copy_masks(masks: &[u64], all: &mut [u64])
 }
 
 // The rules in force: how many they are, and their masks in arrays with room for the most rules.
-#[derive(Drop)]
+#[derive(Clone, Copy)]
 struct RulesInForce {
     rules: usize,
     yes: [u64; MaskedProblem::MAX_RULES],

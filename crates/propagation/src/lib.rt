@@ -1,4 +1,6 @@
 // A partial filling, what a pass over the rules finds under it (unit propagation), and resolution.
+#![tactic(auto)]
+
 ghost use Rattle.std.specs.Prelude.{◌≡◌, ◌<◌};
 ghost use Rattle.sets.specs.Sets.{width};
 ghost use Rattle.propagation.specs.Promises.{Assigned};
@@ -9,7 +11,7 @@ pub mod pass;
 pub mod resolution;
 
 // A partial filling: the variables of `on` are yes, those of `off` are no, and the others are not set.
-#[derive(Drop)]
+#[derive(Clone, Copy)]
 pub struct Partial {
     pub on: u64,
     pub off: u64,

@@ -5,7 +5,7 @@ ghost use Rattle.propagation.specs.Promises.{Looked, RuleAt, ToTry, Chosen, Pass
 use crate::Partial;
 
 // A rule: a yes among the variables of `yes`, or a no among those of `no`.
-#[derive(Drop)]
+#[derive(Clone, Copy)]
 pub struct Rule {
     pub yes: u64,
     pub no: u64,
@@ -13,7 +13,7 @@ pub struct Rule {
 
 // What a rule tells under a partial filling: that each of its literals is false; that all but one are, of a variable not
 // set; or neither, with its variables that are not set, none where a literal is true.
-#[derive(Drop)]
+#[derive(Clone, Copy)]
 enum Look {
     Conflict,
     Unit,
@@ -22,7 +22,7 @@ enum Look {
 
 // What a pass over the rules tells: a rule that is false; one that forces a variable, and the place after it; or neither,
 // with the variables not set of the rules that have no true literal.
-#[derive(Drop)]
+#[derive(Clone, Copy)]
 pub enum Pass {
     Conflict(Rule),
     Unit { rule: Rule, next: usize },

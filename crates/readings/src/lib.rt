@@ -1,4 +1,6 @@
 // What a reader says of a book, held against the reckoning.
+#![tactic(auto)]
+
 use book::{Book, Reading, Verdict};
 use dates::{Applies, Date, Moment};
 use records::RuleWindow;

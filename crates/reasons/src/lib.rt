@@ -1,5 +1,7 @@
 // The search for one goal: the least key of the sets of known literals that force it, by the witnesses that a pool of models
 // gives.
+#![tactic(auto)]
+
 ghost use Rattle.std.specs.Prelude.{◌≡◌};
 ghost use Rattle.witnesses.specs.Promises.{Pooled};
 ghost use Rattle.reasons.specs.Promises.{Exploring, ItemFits, with_item, Explored};

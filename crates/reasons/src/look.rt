@@ -9,7 +9,7 @@ use witnesses::{Aim, Part, State, bound, question};
 
 // What a look leaves of a part: the limit within which its candidates with a key below the least so far lie, and an open
 // witness, 0 where there is none. No promise depends on `free`, the items that the bound has used up and those chosen.
-#[derive(Drop)]
+#[derive(Clone, Copy)]
 pub struct OpenPart {
     pub limit: u64,
     pub witness: u64,
@@ -17,14 +17,14 @@ pub struct OpenPart {
 }
 
 // What a look at a part tells: that no candidate of it has a key below the least so far, or what it leaves.
-#[derive(Drop)]
+#[derive(Clone, Copy)]
 pub enum Look {
     Dead,
     Open(OpenPart),
 }
 
 // A look, and what the search carries along after it.
-#[derive(Drop)]
+#[derive(Clone, Copy)]
 pub struct Looking {
     pub look: Look,
     pub state: State,

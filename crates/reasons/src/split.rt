@@ -8,7 +8,7 @@ use sat::SearchResult;
 use witnesses::{Aim, Part, State, question};
 
 // Where the search of a part goes on: nowhere, or with the sets within a limit that hold an item and those that do not.
-#[derive(Drop)]
+#[derive(Clone, Copy)]
 pub enum Split {
     Done(State),
     At { limit: u64, item: u32, state: State },

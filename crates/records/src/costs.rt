@@ -6,7 +6,7 @@ ghost use Rattle.records.specs.Promises.{cost_answer};
 use crate::mark::Check;
 use crate::{Book, mark};
 
-#[derive(Drop)]
+#[derive(Clone, Copy)]
 pub enum CostRead {
     Says { of_yes: u16, of_no: u16 },
     Fails(u8),

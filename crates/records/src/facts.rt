@@ -6,7 +6,7 @@ ghost use Rattle.records.specs.Promises.{fact_answer};
 use crate::mark;
 use crate::mark::Check;
 
-#[derive(Drop)]
+#[derive(Clone, Copy)]
 pub enum FactRead {
     Says(i8),
     Fails(u8),

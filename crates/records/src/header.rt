@@ -6,7 +6,7 @@ ghost use Rattle.records.specs.Promises.{header_answer};
 use crate::mark::Check;
 use crate::{Book, mark};
 
-#[derive(Drop)]
+#[derive(Clone, Copy)]
 pub enum HeaderRead {
     Says {
         variables: usize,

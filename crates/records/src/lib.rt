@@ -1,4 +1,6 @@
 // The order book's type with its limits, and the readers of its records, one record at a time.
+#![tactic(auto)]
+
 pub mod costs;
 pub mod facts;
 pub mod header;
@@ -9,7 +11,7 @@ pub mod windows;
 use dates::Applies;
 
 // When a rule applies, in a struct: a field cannot be an array of enums.
-#[derive(Drop)]
+#[derive(Clone, Copy)]
 pub struct RuleWindow {
     pub applies: Applies,
 }
@@ -17,7 +19,7 @@ pub struct RuleWindow {
 // A book as it is kept: the counts V, U and R, the rules as two parallel arrays of masks and their windows beside them, the
 // given facts as two masks.
 // Bit v - 1 of a mask stands for variable v: in `yes` where the rule has the literal v, in `no` where it has -v.
-#[derive(Drop)]
+#[derive(Clone, Copy)]
 pub struct Book {
     pub variables: usize,
     pub choices: usize,

@@ -16,7 +16,7 @@ pub const FA: [u8; 2] = *b"FA";
 pub const EN: [u8; 2] = *b"EN";
 
 // Checks that pass, or the number of the first that fails.
-#[derive(Drop)]
+#[derive(Clone, Copy)]
 pub enum Check {
     Passes,
     Fails(u8),

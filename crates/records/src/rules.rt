@@ -9,13 +9,13 @@ use crate::mark::Check;
 use crate::{Book, mark};
 use literals::LiteralSet;
 
-#[derive(Drop)]
+#[derive(Clone, Copy)]
 enum LiteralsRead {
     Says(LiteralSet),
     Fails,
 }
 
-#[derive(Drop)]
+#[derive(Clone, Copy)]
 pub enum RuleRead {
     Says { set: LiteralSet, len: usize },
     Fails(u8),

@@ -7,7 +7,7 @@ use crate::mark::Check;
 use crate::{costs, mark};
 use dates::{Date, Window};
 
-#[derive(Drop)]
+#[derive(Clone, Copy)]
 pub enum WindowRead {
     Says(Window),
     Fails(u8),

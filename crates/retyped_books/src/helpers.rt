@@ -6,7 +6,7 @@ use brute_force::fillings::Literals;
 use samples::random;
 
 // Two variables changed for one another, then the signs of the variables of a mask.
-#[derive(Drop)]
+#[derive(Clone, Copy)]
 struct Change {
     a: usize,
     b: usize,

@@ -1,5 +1,7 @@
 // Books retyped: other bytes, with the same choices, costs and facts; and the fillings that obey the rules are the same when
 // restricted to the choices. Besides them small books spread over the variables of the largest.
+#![tactic(auto)]
+
 mod helpers;
 mod implied;
 mod order;
@@ -17,7 +19,7 @@ use samples::reckon::Reckoned;
 // for each literal that the rules force, or one that has all literals of another; every rule of this last kind left out;
 // helpers under other names, with the opposite meaning, one more, one fewer; a long rule split by a helper that is defined
 // in one direction or in both. Or any of these in turn.
-#[derive(Drop)]
+#[derive(Clone, Copy)]
 pub enum Way {
     Order,
     Repeated,
@@ -57,7 +59,7 @@ pub fn nth(n: usize) -> Way {
 }
 
 // A book and the same retyped.
-#[derive(Drop)]
+#[derive(Clone, Copy)]
 pub struct Pair {
     pub original: Draft,
     pub retyped: Draft,

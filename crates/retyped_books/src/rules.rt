@@ -6,7 +6,7 @@ use samples::{limits, random};
 
 // The rules, how many they and the variables and choices are, and the generator's state. They fit until there is a rule
 // or a variable that no book can have.
-#[derive(Drop)]
+#[derive(Clone, Copy)]
 pub struct Rules {
     pub yes: [u64; Rules::ROOM],
     pub no: [u64; Rules::ROOM],

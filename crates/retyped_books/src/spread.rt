@@ -10,7 +10,7 @@ use samples::reckon::Reckoned;
 use samples::{limits, windows};
 
 // How many variables and choices the small book has: at most ten choices, and at most sixteen helpers.
-#[derive(Drop)]
+#[derive(Clone, Copy)]
 pub struct Small {
     pub variables: usize,
     pub choices: usize,

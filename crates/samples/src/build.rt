@@ -6,7 +6,7 @@ use crate::{calendar, limits, windows};
 
 // The bytes put so far, at the start of a room that holds the longest book and more; and the generator's state, which a
 // book that is made up takes along.
-#[derive(Drop)]
+#[derive(Clone, Copy)]
 pub struct Draft {
     pub bytes: [u8; Draft::ROOM],
     pub len: usize,

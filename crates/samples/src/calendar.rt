@@ -3,7 +3,7 @@
 use crate::limits;
 
 // A day met in counting: its date, its weekday, 0 for Monday, and how many days of those years come before it.
-#[derive(Drop)]
+#[derive(Clone, Copy)]
 pub struct Day {
     pub year: u16,
     pub month: u8,

@@ -1,4 +1,6 @@
 // Sample books, which the test programs share: built as bytes, made up, edited, and reckoned by a pass of their own.
+#![tactic(auto)]
+
 pub mod build;
 pub mod calendar;
 pub mod counter;

@@ -14,7 +14,7 @@ pub const FIELD: u8 = 3;
 pub const NOTHING: u8 = 4;
 
 // What is remembered from one byte to the next.
-#[derive(Drop)]
+#[derive(Clone, Copy)]
 pub struct Machine {
     pub state: u8,
     pub at: usize,

@@ -6,7 +6,7 @@ use crate::{fields, limits, machine, windows};
 
 // A book as reckoned: number 0 where it is accepted, all but number and place 0 where it is not.
 // The costs stand in one row: yes and no of choice 1, yes and no of choice 2, ..
-#[derive(Drop)]
+#[derive(Clone, Copy)]
 pub struct Reckoned {
     pub number: u8,
     pub place: usize,

@@ -3,7 +3,7 @@ use crate::{calendar, limits, random};
 
 // The window of a rule: from the first date on and before the end date, on the weekdays of a mask (the lowest bit is
 // Monday's), from the first minute on and before the end minute. Where the mask is 0 the rule has no WN record.
-#[derive(Drop)]
+#[derive(Clone, Copy)]
 pub struct Window {
     pub first: u32,
     pub end: u32,
@@ -12,7 +12,7 @@ pub struct Window {
     pub end_minute: u16,
 }
 
-#[derive(Drop)]
+#[derive(Clone, Copy)]
 pub struct Moment {
     pub date: u32,
     pub minute: u16,

@@ -2,6 +2,8 @@
 // Rule i is two masks: it asks for a yes among the variables of `yes[i]` or a no among those of `no[i]`.
 // A branch that fails hands back a rule that every filling of the rules obeys, and what it names says how far up the
 // failure reaches: conflict analysis to the first unique implication point, with the calls as its only memory.
+#![tactic(auto)]
+
 ghost use Rattle.sat.specs.Promises.{Posed, PartialOf, Completes, Following, Forcing, Trying, Followed, Searched};
 
 use propagation::pass::{Pass, Rule};
@@ -10,21 +12,21 @@ use propagation::{pass, resolution};
 
 // What only steers the search, and no promise depends on: the values tried first, and the rule at which the next pass
 // begins.
-#[derive(Drop)]
+#[derive(Clone, Copy)]
 struct Hints {
     prefer: u64,
     from: usize,
 }
 
 // What a branch of the search gives: a model, or a rule that every filling of the rules obeys.
-#[derive(Drop)]
+#[derive(Clone, Copy)]
 enum Branch {
     Model(u64),
     Implied(Rule),
 }
 
 // What the search finds.
-#[derive(Drop)]
+#[derive(Clone, Copy)]
 pub enum SearchResult {
     Found(u64),
     Nothing,

@@ -1,5 +1,7 @@
 // Sets of small numbers as masks: element `v` is in the set `m` where bit `v` of `m` is 1. An element is below `width`.
 // Each function says by an equation which set of `specs/Sets.antt` it gives; what follows of it is in `specs/Laws/`.
+#![tactic(auto)]
+
 ghost use Rattle.std.specs.Prelude.{◌≡◌, ◌≤◌, ◌<◌};
 ghost use Rattle.sets.specs.Sets as set;
 ghost use Rattle.sets.specs.Sets.{width, Lowest, Counted};

@@ -1,4 +1,6 @@
 // The next step: the cheapest set of known literals that forces a literal still unknown.
+#![tactic(auto)]
+
 ghost use Rattle.std.specs.Prelude.{◌≡◌, ◌+◌, ◌^◌, ◌<◌, ◌≤◌};
 ghost use Rattle.sets.specs.Sets.{Apart, width};
 ghost use Rattle.literals.specs.Literal.{variable, literal_of};
@@ -14,7 +16,7 @@ use literals::LiteralSet;
 use reasons::{Aim, Part, State};
 
 // The answer: the step, or that every literal of the consequence is known.
-#[derive(Drop)]
+#[derive(Clone, Copy)]
 pub enum Next {
     Step {
         goal: i8,

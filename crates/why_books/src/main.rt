@@ -1,5 +1,7 @@
 // `why` on every stored book: each book's name, and what the function that `why` calls prints for it, at noon on 17 November 2026
 // unless said.
+#![tactic(auto)]
+
 use samples::{build, counter};
 
 // One more than the number of the last book of `bench/`.

@@ -7,7 +7,7 @@ use crate::{Aim, Part, question};
 use book::Book;
 
 // What a stored model tells of a part: nothing, or the items within its limit of which each candidate holds one.
-#[derive(Drop)]
+#[derive(Clone, Copy)]
 enum Witness {
     Met,
     Open(u64),
@@ -15,7 +15,7 @@ enum Witness {
 
 // A lower bound on the keys of a part's candidates, and an open witness, 0 where there is none. No promise depends on the
 // witness's size, nor on `spent`, the items whose weight the bound has used up.
-#[derive(Drop)]
+#[derive(Clone, Copy)]
 pub struct Bounds {
     pub bound: u64,
     pub spent: u64,

@@ -2,12 +2,14 @@
 // found. The known literals are costed items: item v is the known literal over variable v + 1, and weighs what it adds to a key.
 // A model of the rules that makes the goal false is a witness: each set that forces the goal holds an item that the model makes
 // false. Such models are kept in a pool.
+#![tactic(auto)]
+
 pub mod bound;
 pub mod question;
 
 // What the search does not change: the goal's variable and what the goal says of it, the known literals, and the key of the
 // goal with no reasons.
-#[derive(Drop)]
+#[derive(Clone, Copy)]
 pub struct Aim {
     pub goal: u32,
     pub says: bool,
@@ -18,7 +20,7 @@ pub struct Aim {
 
 // The sets of items that a part of the search looks at: they hold `chosen` and lie within `limit`. The key is that of
 // `chosen`.
-#[derive(Drop)]
+#[derive(Clone, Copy)]
 pub struct Part {
     pub chosen: u64,
     pub limit: u64,
@@ -27,7 +29,7 @@ pub struct Part {
 
 // What the search carries along: the least key so far, and how many models the pool holds. No promise depends on the rest:
 // where the next model goes once the pool is full, and the looks since the last question that was asked for the pool alone.
-#[derive(Drop)]
+#[derive(Clone, Copy)]
 pub struct State {
     pub best: u64,
     pub used: usize,

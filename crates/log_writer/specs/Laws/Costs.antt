@@ -19,7 +19,7 @@ use Rattle.step.specs.IsStep.{opposite_on, opposite_off}
 use Rattle.step.specs.Laws.Costs.{cost_parts_lem, opposite_cost, opposite_most}
 use Rattle.log_form.specs.Laws.Lists.{each_literal, variable_signed, opposite_literal, members_in, signed, rising_members}
 use Rattle.log_form.specs.Laws.Masks.{mask_in, masks_back}
-use Rattle.log.specs.Demand3.{In, cost_of_set}
+use Rattle.log_writer.specs.Demand3.{In, cost_of_set}
 
 module _ (p : Problem) where
   -- the cost of a set of its variables

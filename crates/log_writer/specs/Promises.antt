@@ -8,8 +8,8 @@ use Rattle.step.specs.Meaning.{Step}
 use Rattle.step.specs.IsStep.{ForcedBy}
 use Rattle.step.specs.Promises.{Asked}
 use Rattle.log_form.specs.Format.{record_bytes, records_bytes, log_bytes}
-use Rattle.log.specs.Meaning.{record_of, costs_written, log_of}
-use Rattle.log.specs.declared.Written.{Written}
+use Rattle.log_writer.specs.Meaning.{record_of, costs_written, log_of}
+use Rattle.log_writer.specs.declared.Written.{Written}
 
 -- A step as its record's writer is handed it.
 abbrev pub put_step : Literal → LiteralSet → LiteralSet → ℕ → Step

@@ -26,14 +26,14 @@ use Rattle.step.specs.Laws.Costs.{set_bound}
 use Rattle.step.specs.Laws.TheStep.{sound_forcing, goal_unknown, holds_digit, digit_holds}
 use Rattle.step.specs.Laws.Given as facts
 use Rattle.step.specs.Laws.Known.{goal_is}
-use Rattle.log.specs.Meaning.{record_of}
-use Rattle.log.specs.Demand3.{Forces, Contradicts, cost_of_set, In, Unknown, StepHolds}
-use Rattle.log.specs.Laws.Growth as growth
+use Rattle.log_writer.specs.Meaning.{record_of}
+use Rattle.log_writer.specs.Demand3.{Forces, Contradicts, cost_of_set, In, Unknown, StepHolds}
+use Rattle.log_writer.specs.Laws.Growth as growth
 use Rattle.log_form.specs.Laws.Reads.{Fits}
 use Rattle.log_form.specs.Laws.Lists.{each_literal, variable_signed, opposite_literal, list_rises}
 use Rattle.log_form.specs.Laws.Masks.{SameLiterals, same_listed, mask_in, same_masks}
-use Rattle.log.specs.Laws.Lists.{same_both, holds_keeps, holds_avoids, same_holds, clash, first_holds, holds_first}
-use Rattle.log.specs.Laws.Costs.{OverVariables, reasons_cost, opposite_le}
+use Rattle.log_writer.specs.Laws.Lists.{same_both, holds_keeps, holds_avoids, same_holds, clash, first_holds, holds_first}
+use Rattle.log_writer.specs.Laws.Costs.{OverVariables, reasons_cost, opposite_le}
 
 -- ---- over a choice, filled in: by the bit of the literal's sign
 

@@ -8,7 +8,7 @@ use Rattle.sat.specs.Meaning.{obeys_rules}
 use Rattle.problem.specs.Problem.{Problem, literal_cost}
 use Rattle.consequence.specs.Demand2.{OverChoice, Always}
 use Rattle.log_form.specs.Format.{StepRecord, Log, log_bytes, is_log, read_log, rising_over}
-use Rattle.log.specs.Meaning.{costs_written}
+use Rattle.log_writer.specs.Meaning.{costs_written}
 
 -- ---- its words
 

@@ -28,14 +28,14 @@ use Rattle.step.specs.Theorems.{left_known}
 use Rattle.step.specs.Laws.TheStep.{sound_sized, step_left, sound_forcing}
 use Rattle.step.specs.Laws.Given as facts
 use Rattle.log_form.specs.Format.{log_bytes, is_log, read_log, rising_over}
-use Rattle.log.specs.Meaning.{with_new, run_from, run_of, run_for, record_of, costs_written, log_of}
-use Rattle.log.specs.Demand3.{In, Unknown, EachHolds, known_after, Demand3, Explained}
-use Rattle.log.specs.Laws.Growth as growth
+use Rattle.log_writer.specs.Meaning.{with_new, run_from, run_of, run_for, record_of, costs_written, log_of}
+use Rattle.log_writer.specs.Demand3.{In, Unknown, EachHolds, known_after, Demand3, Explained}
+use Rattle.log_writer.specs.Laws.Growth as growth
 use Rattle.log_form.specs.Laws.Reads.{AllFit, InForm, read_written}
 use Rattle.log_form.specs.Laws.Lists.{each_literal, list_length_is, list_rises}
 use Rattle.log_form.specs.Laws.Masks.{SameLiterals, same_listed, same_masks}
-use Rattle.log.specs.Laws.Lists.{no_zero}
-use Rattle.log.specs.Laws.OneStep.{filled_bit, bit_filled, goal_bit, choices_below, forced, demand, step_holds, cost_small, step_fits, same_more}
+use Rattle.log_writer.specs.Laws.Lists.{no_zero}
+use Rattle.log_writer.specs.Laws.OneStep.{filled_bit, bit_filled, goal_bit, choices_below, forced, demand, step_holds, cost_small, step_fits, same_more}
 
 module _ {p : Problem} (w : ProperProblem p) (some : has_model p ≡ true) where
   pub consistent : contradicts (theory_of p) (given p).yes (given p).no ≡ false

@@ -22,9 +22,9 @@ use Rattle.step.specs.Laws.TheStep.{asked_sound, goals_choices}
 use Rattle.step.specs.declared.Next.{Next}
 use Rattle.step.specs.declared.Next.TheVariants as Next
 use Rattle.log_form.specs.Format.{records_bytes, ok_bytes, log_bytes}
-use Rattle.log.specs.Meaning.{with_new, run_from, run_of, record_of, costs_written, log_of}
-use Rattle.log.specs.Promises.{put_step, step_bytes, steps_bytes, total_of, LogAsked, LogWritten}
-use Rattle.log.specs.Laws.Growth as growth
+use Rattle.log_writer.specs.Meaning.{with_new, run_from, run_of, record_of, costs_written, log_of}
+use Rattle.log_writer.specs.Promises.{put_step, step_bytes, steps_bytes, total_of, LogAsked, LogWritten}
+use Rattle.log_writer.specs.Laws.Growth as growth
 use Rattle.log_form.proofs.ListLaws.{list_length}
 use Rattle.log_form.proofs.RecordLaws.{step_length, ok_length}
 use Rattle.log_form.proofs.StoreLaws.{put_append, put_none, put_length, put_whole}

@@ -1,4 +1,4 @@
--- `log::write` meets its contract. Assumes nothing.
+-- `log_writer::write` meets its contract. Assumes nothing.
 use mathlib.Core.Path.{◌≡◌, ◌∙◌}
 use native.Mathlib.Omega.{arith}
 use borrow.Author.Rules.{rules}
@@ -9,13 +9,13 @@ use Rattle.sets.specs.Sets.{count}
 use Rattle.literals.specs.declared.LiteralSet.{LiteralSet}
 use Rattle.step.specs.Meaning.{Question, Step, goals, step_of, step, nothing_left}
 use Rattle.step.specs.Promises.{mask_question}
-use Rattle.log.specs.Promises.{put_step, step_bytes, LogAsked}
-use Rattle.log.proofs.RunLaws.{Logging, logging_none, logging_room, logging_more, logging_ended, end_room, step_open, goals_fewer, answered_step}
-use Rattle.log.proofs.RunLaws.{answered_nothing}
+use Rattle.log_writer.specs.Promises.{put_step, step_bytes, LogAsked}
+use Rattle.log_writer.proofs.RunLaws.{Logging, logging_none, logging_room, logging_more, logging_ended, end_room, step_open, goals_fewer, answered_step}
+use Rattle.log_writer.proofs.RunLaws.{answered_nothing}
 use Rattle.log_form.proofs.StoreLaws.{put_length}
 use Rattle.log_form.specs.Promises.{Put}
-use Rattle.log.proofs.write.Statement.{statement}
-use Rattle.log.proofs.write.Tie as tie
+use Rattle.log_writer.proofs.write.Statement.{statement}
+use Rattle.log_writer.proofs.write.Tie as tie
 
 abbrev invariant-loop : tie.invariant-loop
 invariant-loop n yes' no' choices costs consequence buffer₀ at₀ known₀ steps₀ total₀ buffer at known steps total =

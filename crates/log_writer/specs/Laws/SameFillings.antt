@@ -14,10 +14,10 @@ use Rattle.consequence.specs.Laws.SameFillings.{theories_same, given_same, same_
 use Rattle.step.specs.Meaning.{asking, question_of, Step, Answer, nothing_left, step, step_of, goals, yes_goals, no_goals}
 use Rattle.step.specs.IsStep.{ForcedBy, Sound}
 use Rattle.step.specs.Theorems.{same_step}
-use Rattle.log.specs.Meaning.{with_new, run_from, run_of, run_for}
-use Rattle.log.specs.Laws.Growth.{sound_more}
-use Rattle.log.specs.Laws.OneStep.{forced}
-use Rattle.log.specs.Laws.Explains.{first_known}
+use Rattle.log_writer.specs.Meaning.{with_new, run_from, run_of, run_for}
+use Rattle.log_writer.specs.Laws.Growth.{sound_more}
+use Rattle.log_writer.specs.Laws.OneStep.{forced}
+use Rattle.log_writer.specs.Laws.Explains.{first_known}
 
 -- ---- two theories, one consequence
 

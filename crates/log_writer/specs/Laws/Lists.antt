@@ -15,7 +15,7 @@ use Rattle.propagation.specs.Promises.{digit}
 use Rattle.step.specs.Laws.TheStep.{holds_digit, digit_holds}
 use Rattle.log_form.specs.Laws.Lists.{each_literal}
 use Rattle.log_form.specs.Laws.Masks.{SameLiterals}
-use Rattle.log.specs.Demand3.{In}
+use Rattle.log_writer.specs.Demand3.{In}
 
 -- two lists in a row
 pub same_both : {ks ls : List Literal} {y n a o : ℕ} → SameLiterals ks y n → SameLiterals ls a o → SameLiterals (ks ++ ls) (union y a) (union n o)

@@ -1,16 +1,18 @@
 // The whole log of a problem.
+#![tactic(auto)]
+
 ghost use Rattle.std.specs.Prelude.{◌≤◌, length};
 ghost use Rattle.records.specs.Limits.{max_log};
 ghost use Rattle.step.specs.Promises.{mask_question};
-ghost use Rattle.log.specs.Meaning.{run_of};
-ghost use Rattle.log.specs.Promises.{LogAsked, LogWritten};
+ghost use Rattle.log_writer.specs.Meaning.{run_of};
+ghost use Rattle.log_writer.specs.Promises.{LogAsked, LogWritten};
 
 use book::Book;
 use literals::LiteralSet;
 use step::Next;
 
 // What the log's writer answers: the log's length, its number of steps and its total.
-#[derive(Drop)]
+#[derive(Clone, Copy)]
 pub struct Written {
     pub size: usize,
     pub steps: u8,
