@@ -19,14 +19,14 @@ use Rattle.book.proofs.RuleLaws.{rule_read}
 use Rattle.book.proofs.ValueLaws.{GoodItem, begin_value, first_of, first_item}
 
 -- Items of one kind, each of at most so many bytes.
-module _ {A : Type 0} {P : A → Type 0} (itemFrom : ℕ → ℕ → Read A) (s : List ℕ) (most : ℕ)
-    (each-short : (i place : ℕ) (a : A) (next : ℕ) → place ≤ length s → itemFrom i place ≡ value a next → (next ≤ place + most) × GoodItem P s a next) where
-  many_short : (left i place : ℕ) {items : List A} {end : ℕ} → place ≤ length s → many itemFrom left i place ≡ value items end
+module _ {A : Type 0} {P : A → Type 0} (item_from : ℕ → ℕ → Read A) (s : List ℕ) (most : ℕ)
+    (each-short : (i place : ℕ) (a : A) (next : ℕ) → place ≤ length s → item_from i place ≡ value a next → (next ≤ place + most) × GoodItem P s a next) where
+  many_short : (left i place : ℕ) {items : List A} {end : ℕ} → place ≤ length s → many item_from left i place ≡ value items end
       → (end ≤ place + left * most) × (end ≤ length s)
   unfolding many
   many_short zero i place {items} {end} h e = let here : place ≡ end = cc in (omega arith, omega arith)
   many_short (suc left) i place {items} {end} h e =
-      let f = first_item (itemFrom i place) (λ a next. many itemFrom left (suc i) next) e in
+      let f = first_item (item_from i place) (λ a next. many item_from left (suc i) next) e in
       let w = each-short i place f.item f.next h f.said in
       let g = many_short left (suc i) f.next w.1.within f.others in
       (omega (arith, w.0, g.0), g.1)

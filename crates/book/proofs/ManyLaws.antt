@@ -128,15 +128,15 @@ module _ {A : Type 0} where
         let step : rest ≡ with_item w.item (after w.item next) = rw (d.due, w.said) refl in
         record { so_far = so_far_more w.item g.so_far step k; within = w.within }
 
-module _ {A : Type 0} (itemFrom : ℕ → ℕ → Read A) (total : ℕ) where
+module _ {A : Type 0} (item_from : ℕ → ℕ → Read A) (total : ℕ) where
   -- After i of so many items of one kind, what is still to be read.
   abbrev pub many_left : ℕ → ℕ → Read (List A)
-  many_left i place = many itemFrom (total - i) (suc i) place
+  many_left i place = many item_from (total - i) (suc i) place
 
-  pub many_begun : (place : ℕ) → many itemFrom total 1 place ≡ many_left 0 place
+  pub many_begun : (place : ℕ) → many item_from total 1 place ≡ many_left 0 place
   many_begun place = rw sub-zero refl
 
-  many_due : (i place : ℕ) → i < total → Due (many_left i place) (itemFrom (i + 1) place) (λ a next. many_left (i + 1) next)
+  many_due : (i place : ℕ) → i < total → Due (many_left i place) (item_from (i + 1) place) (λ a next. many_left (i + 1) next)
   unfolding many
   many_due i place l =
       let left : total - i ≡ suc (total - (i + 1)) = omega arith in
@@ -147,18 +147,18 @@ module _ {A : Type 0} (itemFrom : ℕ → ℕ → Read A) (total : ℕ) where
   many_over i place l = let left : total - i ≡ 0 = omega arith in rw left refl
 
 -- A loop over so many items of one kind: one more of them, and the loop's answer where one is refused and where all are read.
-module _ {A : Type 0} (itemFrom : ℕ → ℕ → Read A) (s : List ℕ) (total from i place : ℕ) {Kept : List A → Type 0}
-    (g : Walked s (many itemFrom total 1 from) Kept (many_left itemFrom total i place) place) where
+module _ {A : Type 0} (item_from : ℕ → ℕ → Read A) (s : List ℕ) (total from i place : ℕ) {Kept : List A → Type 0}
+    (g : Walked s (many item_from total 1 from) Kept (many_left item_from total i place) place) where
   pub many_more : {Kept' : List A → Type 0} {P : A → Type 0} {next : ℕ} → i < total
-      → (w : WholeFrom P s next (itemFrom (i + 1) place)) → ((done : List A) → Kept done → Kept' (done ++ (w.item ∷ [])))
-      → Walked s (many itemFrom total 1 from) Kept' (many_left itemFrom total (i + 1) next) next
-  many_more l w k = walked_more g (many_due itemFrom total i place l) w k
+      → (w : WholeFrom P s next (item_from (i + 1) place)) → ((done : List A) → Kept done → Kept' (done ++ (w.item ∷ [])))
+      → Walked s (many item_from total 1 from) Kept' (many_left item_from total (i + 1) next) next
+  many_more l w k = walked_more g (many_due item_from total i place l) w k
 
-module _ {A B : Type 0} (answer : Read (List A) → B) (itemFrom : ℕ → ℕ → Read A) (s : List ℕ) (total from i place : ℕ)
-    {Kept : List A → Type 0} (g : Walked s (many itemFrom total 1 from) Kept (many_left itemFrom total i place) place) where
-  pub many_refused : {number p : ℕ} → i < total → itemFrom (i + 1) place ≡ refused number p
-      → answer (refused number p) ≡ answer (many itemFrom total 1 from)
-  many_refused l f = ap answer (sym (so_far_refused g.so_far (due_refused (many_due itemFrom total i place l) f)))
+module _ {A B : Type 0} (answer : Read (List A) → B) (item_from : ℕ → ℕ → Read A) (s : List ℕ) (total from i place : ℕ)
+    {Kept : List A → Type 0} (g : Walked s (many item_from total 1 from) Kept (many_left item_from total i place) place) where
+  pub many_refused : {number p : ℕ} → i < total → item_from (i + 1) place ≡ refused number p
+      → answer (refused number p) ≡ answer (many item_from total 1 from)
+  many_refused l f = ap answer (sym (so_far_refused g.so_far (due_refused (many_due item_from total i place l) f)))
 
-  pub many_all : total ≤ i → answer (value g.so_far.done place) ≡ answer (many itemFrom total 1 from)
-  many_all l = ap answer (sym (so_far_all g.so_far (many_over itemFrom total i place l)))
+  pub many_all : total ≤ i → answer (value g.so_far.done place) ≡ answer (many item_from total 1 from)
+  many_all l = ap answer (sym (so_far_all g.so_far (many_over item_from total i place l)))

@@ -83,8 +83,8 @@ rule_numbered s n place = search (rl_numbered, wn_numbered, steps) depth 8
 
 -- ---- the book
 
-module _ {A : Type 0} (itemFrom : ℕ → ℕ → Read A) (each : (i place : ℕ) → AllNumbered (itemFrom i place)) where
-  many_numbered : (left i place : ℕ) → AllNumbered (many itemFrom left i place)
+module _ {A : Type 0} (item_from : ℕ → ℕ → Read A) (each : (i place : ℕ) → AllNumbered (item_from i place)) where
+  many_numbered : (left i place : ℕ) → AllNumbered (many item_from left i place)
   unfolding many
   many_numbered zero i place = is_read
   many_numbered (suc left) i place = search (many_numbered left, steps)

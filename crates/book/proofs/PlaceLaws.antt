@@ -66,8 +66,8 @@ module _ (s : List ℕ) where
       begin_placed s place (rule_at n (drop place s)) h (λ ls len e. (rule_whole n (drop place s) e).1.within) (λ ls p k.
       then_placed s (window_placed p k) (λ a q l. ends_at l))
 
-  module _ {A : Type 0} (itemFrom : ℕ → ℕ → Read A) (inside : (i place : ℕ) → place ≤ length s → Placed (length s) (itemFrom i place)) where
-    many_placed : (left i place : ℕ) → place ≤ length s → Placed (length s) (many itemFrom left i place)
+  module _ {A : Type 0} (item_from : ℕ → ℕ → Read A) (inside : (i place : ℕ) → place ≤ length s → Placed (length s) (item_from i place)) where
+    many_placed : (left i place : ℕ) → place ≤ length s → Placed (length s) (many item_from left i place)
     unfolding many
     many_placed zero i place h = ends_at h
     many_placed (suc left) i place h = then_placed s (inside i place h) (λ a p k. with_item_placed a (many_placed left (suc i) p k))

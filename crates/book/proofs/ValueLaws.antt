@@ -72,9 +72,9 @@ pub record GoodItem {A : Type 0} (P : A → Type 0) (s : List ℕ) (a : A) (next
   pub within : next ≤ length s
   pub good : P a
 
-module _ {A : Type 0} (itemFrom : ℕ → ℕ → Read A) (s : List ℕ) (P : A → Type 0)
-    (each-good : (i place : ℕ) (a : A) (next : ℕ) → place ≤ length s → itemFrom i place ≡ value a next → GoodItem P s a next) where
-  pub many_good : (left i place : ℕ) {items : List A} {end : ℕ} → place ≤ length s → many itemFrom left i place ≡ value items end
+module _ {A : Type 0} (item_from : ℕ → ℕ → Read A) (s : List ℕ) (P : A → Type 0)
+    (each-good : (i place : ℕ) (a : A) (next : ℕ) → place ≤ length s → item_from i place ≡ value a next → GoodItem P s a next) where
+  pub many_good : (left i place : ℕ) {items : List A} {end : ℕ} → place ≤ length s → many item_from left i place ≡ value items end
       → AllGood s P left items end
   unfolding many
   many_good zero i place {items} {end} h e =
@@ -82,7 +82,7 @@ module _ {A : Type 0} (itemFrom : ℕ → ℕ → Read A) (s : List ℕ) (P : A 
       let here : place ≡ end = cc in
       rw (← none) (record { counted = refl; each = tt; within = omega arith })
   many_good (suc left) i place h e =
-      let f = first_item (itemFrom i place) (λ a next. many itemFrom left (suc i) next) e in
+      let f = first_item (item_from i place) (λ a next. many item_from left (suc i) next) e in
       let w = each-good i place f.item f.next h f.said in
       let g = many_good left (suc i) f.next w.within f.others in
       rw (← f.all) (record { counted = ap suc g.counted; each = (w.good, g.each); within = g.within })

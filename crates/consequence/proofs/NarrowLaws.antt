@@ -92,4 +92,4 @@ module _ {n : ℕ} {ys ns : List ℕ} {ch on off : ℕ} (below : ch < 2 ^ n) whe
         common = is_more ∙ ap (λ (k : LiteralSet). in_both k (over_choices ch m)) w.common ∙ common_more n ch below m w.found;
       }
 
-pub ruleset round-laws = (yes_below, no_below, round_none, round_first, round_last, round_less, round_next)
+pub ruleset round_laws = (yes_below, no_below, round_none, round_first, round_last, round_less, round_next)

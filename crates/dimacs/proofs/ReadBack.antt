@@ -92,8 +92,8 @@ module _ {A : Type 0} (bytes_of : ℕ → A → List ℕ) where
   row_bytes i (a ∷ items) = bytes_of i a ++ row_bytes (suc i) items
 
 -- Items with the property P, each read back from its bytes where what follows them has the property Q, as the bytes of an item have.
-module _ {A : Type 0} (itemFrom : ℕ → ℕ → Read A) (bytes_of : ℕ → A → List ℕ) (P : A → Type 0) (Q : List ℕ → Type 0) (s : List ℕ)
-    (back : (i place : ℕ) (a : A) (rest : List ℕ) → P a → Q rest → drop place s ≡ bytes_of i a ++ rest → itemFrom i place ≡ value a
+module _ {A : Type 0} (item_from : ℕ → ℕ → Read A) (bytes_of : ℕ → A → List ℕ) (P : A → Type 0) (Q : List ℕ → Type 0) (s : List ℕ)
+    (back : (i place : ℕ) (a : A) (rest : List ℕ) → P a → Q rest → drop place s ≡ bytes_of i a ++ rest → item_from i place ≡ value a
     (place + length (bytes_of i a)))
     (follows : (i : ℕ) (a : A) (rest : List ℕ) → Q (bytes_of i a ++ rest)) where
   others_follow : (items : List A) (i : ℕ) (rest : List ℕ) → Q rest → Q (row_bytes bytes_of i items ++ rest)
@@ -101,7 +101,7 @@ module _ {A : Type 0} (itemFrom : ℕ → ℕ → Read A) (bytes_of : ℕ → A 
   others_follow (a ∷ items) i rest q = rw (append_assoc (bytes_of i a) (row_bytes bytes_of (suc i) items) rest) (follows i a _)
 
   many_back : (items : List A) (i place : ℕ) (rest : List ℕ) → Each P items → Q rest → drop place s ≡ row_bytes bytes_of i items ++ rest
-      → many itemFrom (length items) i place ≡ value items (place + length (row_bytes bytes_of i items))
+      → many item_from (length items) i place ≡ value items (place + length (row_bytes bytes_of i items))
   unfolding many
   many_back [] i place rest e q d = ap (value []) (omega arith)
   many_back (a ∷ items) i place rest e q d =

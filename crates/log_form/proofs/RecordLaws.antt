@@ -85,4 +85,4 @@ module _ (a : List ℕ) (at steps total : ℕ) (room : at + length (ok_bytes ste
     pub ok_total_room : {c : List ℕ} {k : ℕ} → Put b j (steps ∷ []) c k → k + 4 ≤ length c
     ok_total_room q = omega (arith, ok_length steps total, p.place, put_length OK p, q.place, put_length (steps ∷ []) q)
 
-pub ruleset ok-laws = (ok_room, ok_count_room, ok_total_room, ok_put)
+pub ruleset ok_laws = (ok_room, ok_count_room, ok_total_room, ok_put)

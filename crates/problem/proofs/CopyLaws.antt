@@ -40,4 +40,4 @@ module _ {masks all₀ : List ℕ} where
   copy_all {all} {i} c h =
       let end : i ≡ length masks = omega (arith, c.upto) in c.copied ∙ rw (end, take-length masks, zero-add (length masks)) refl
 
-pub ruleset copy-laws = (copy_start, copy_more, copy_room, copy_length, copy_all)
+pub ruleset copy_laws = (copy_start, copy_more, copy_room, copy_length, copy_all)

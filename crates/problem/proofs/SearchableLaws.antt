@@ -22,4 +22,4 @@ module _ {p : MaskedProblem} (w : Searchable p) where
   pub rules_short : length (yes_in p) ≤ most_rules
   rules_short = omega (arith, yes_length, w.few_rules)
 
-pub ruleset rules-laws = (yes_length, no_length, rules_short)
+pub ruleset rules_laws = (yes_length, no_length, rules_short)

@@ -218,11 +218,11 @@ rule_from s n place =
     and_then (window_from s place) (λ applies place.
     value (record { literals = ls; applies = applies }) place))
 
-module _ {A : Type 0} (itemFrom : ℕ → ℕ → Read A) where
+module _ {A : Type 0} (item_from : ℕ → ℕ → Read A) where
   -- So many items of one kind, the first of them number i, from a place on.
   unfoldable pub many : ℕ → ℕ → ℕ → Read (List A)
   many zero i place = value [] place
-  many (suc left) i place = and_then (itemFrom i place) (λ a next. with_item a (many left (suc i) next))
+  many (suc left) i place = and_then (item_from i place) (λ a next. with_item a (many left (suc i) next))
 
 -- The facts from a place on, and EN. Each FA takes three bytes, so as many turns as there are bytes are enough (`facts_enough`, book/proofs/FactLaws).
 unfoldable pub facts_from : List ℕ → ℕ → ℕ → ℕ → ℕ → Read (List Literal)

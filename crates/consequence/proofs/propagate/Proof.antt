@@ -3,7 +3,7 @@
 use native.Mathlib.Omega.{arith}
 use borrow.Author.Rules.{rules}
 use Rattle.consequence.specs.Algorithm2.{size}
-use Rattle.consequence.proofs.NarrowLaws.{Round, number_most, round-laws}
+use Rattle.consequence.proofs.NarrowLaws.{Round, number_most, round_laws}
 use Rattle.consequence.proofs.propagate.Statement.{statement}
 use Rattle.consequence.proofs.propagate.Tie as tie
 
@@ -21,7 +21,7 @@ add_models c =
 
 pub propagate_spec : {M : Type 1} → statement M
 propagate_spec =
-    tie.close (tie.spec invariant-loop decreases-loop (λ c κs. search rules) (λ c. search rules) (λ c. search rules) (λ c. search (rules, round-laws))
-    (λ c κs. search rules) (λ c. search (rules, round-laws)) (λ c κs. search (rules, round-laws)) (λ c. search rules) (λ c. search rules)
-    (λ c. search (rules, round-laws)) (λ c κs. search rules) (λ c κs. search rules) add_models (λ c. search (rules, round-laws))
-    (λ c. search (rules, round-laws)))
+    tie.close (tie.spec invariant-loop decreases-loop (λ c κs. search rules) (λ c. search rules) (λ c. search rules) (λ c. search (rules, round_laws))
+    (λ c κs. search rules) (λ c. search (rules, round_laws)) (λ c κs. search (rules, round_laws)) (λ c. search rules) (λ c. search rules)
+    (λ c. search (rules, round_laws)) (λ c κs. search rules) (λ c κs. search rules) add_models (λ c. search (rules, round_laws))
+    (λ c. search (rules, round_laws)))

@@ -2,7 +2,7 @@
 use mathlib.Core.Logic.{⊎_elim}
 use native.Mathlib.Omega.{arith}
 use borrow.Author.Rules.{rules}
-use Rattle.items.specs.Laws.Weighing.{ItemGone, item_kept, item_other, item-laws}
+use Rattle.items.specs.Laws.Weighing.{ItemGone, item_kept, item_other, item_laws}
 use Rattle.items.proofs.cheapest_item.Statement.{statement}
 use Rattle.items.proofs.cheapest_item.Tie as tie
 
@@ -21,7 +21,7 @@ loop_again c =
 
 pub cheapest_item_spec : {M : Type 1} → statement M
 cheapest_item_spec =
-    tie.close (tie.spec invariant-loop decreases-loop (λ c κs. search (rules, item-laws)) (λ c. search (rules, item-laws)) (λ c κs. search (rules, item-laws))
-    (λ c. search (rules, item-laws)) (λ c. search (rules, item-laws)) (λ c. search (rules, item-laws)) (λ c. search (rules, item-laws))
-    (λ c. search (rules, item-laws)) (λ c. search (rules, item-laws)) (λ c κs. search (rules, item-laws)) (λ c. search (rules, item-laws))
-    loop_again (λ c. search (rules, item-laws)))
+    tie.close (tie.spec invariant-loop decreases-loop (λ c κs. search (rules, item_laws)) (λ c. search (rules, item_laws)) (λ c κs. search (rules, item_laws))
+    (λ c. search (rules, item_laws)) (λ c. search (rules, item_laws)) (λ c. search (rules, item_laws)) (λ c. search (rules, item_laws))
+    (λ c. search (rules, item_laws)) (λ c. search (rules, item_laws)) (λ c κs. search (rules, item_laws)) (λ c. search (rules, item_laws))
+    loop_again (λ c. search (rules, item_laws)))

@@ -3,7 +3,7 @@ use mathlib.Core.Path.{◌∙◌}
 use mathlib.Core.Logic.{⊎_elim}
 use native.Mathlib.Omega.{arith}
 use borrow.Author.Rules.{rules}
-use Rattle.items.specs.Laws.Weighing.{LighterGone, lighter_on, lighter_off, lighter-laws}
+use Rattle.items.specs.Laws.Weighing.{LighterGone, lighter_on, lighter_off, lighter_laws}
 use Rattle.items.proofs.lighter.Statement.{statement}
 use Rattle.items.proofs.lighter.Tie as tie
 
@@ -22,6 +22,6 @@ loop_again c =
 
 pub lighter_spec : {M : Type 1} → statement M
 lighter_spec =
-    tie.close (tie.spec invariant-loop decreases-loop (λ c. search (rules, lighter-laws)) (λ c κs. search (rules, lighter-laws)) (λ c. search (rules, lighter-laws))
-    (λ c. search (rules, lighter-laws)) (λ c. search (rules, lighter-laws)) (λ c κs. search (rules, lighter-laws))
-    (λ c κs. search (rules, lighter-laws)) (λ c. search (rules, lighter-laws)) loop_again (λ c. search (rules, lighter-laws)))
+    tie.close (tie.spec invariant-loop decreases-loop (λ c. search (rules, lighter_laws)) (λ c κs. search (rules, lighter_laws)) (λ c. search (rules, lighter_laws))
+    (λ c. search (rules, lighter_laws)) (λ c. search (rules, lighter_laws)) (λ c κs. search (rules, lighter_laws))
+    (λ c κs. search (rules, lighter_laws)) (λ c. search (rules, lighter_laws)) loop_again (λ c. search (rules, lighter_laws)))

@@ -2,7 +2,7 @@
 use Prim.Native.Nat.{◌-◌}
 use lib.ListN.{length}
 use borrow.Author.Rules.{rules}
-use Rattle.problem.proofs.CopyLaws.{Copying, copy-laws}
+use Rattle.problem.proofs.CopyLaws.{Copying, copy_laws}
 use Rattle.problem.proofs.copy_masks.Statement.{statement}
 use Rattle.problem.proofs.copy_masks.Tie as tie
 
@@ -14,6 +14,6 @@ decreases-loop masks all₀ i₀ all i = length masks - i
 
 pub copy_masks_spec : {M : Type 1} → statement M
 copy_masks_spec =
-    tie.close (tie.spec invariant-loop decreases-loop (λ c. search (rules, copy-laws)) (λ c. search (rules, copy-laws)) (λ c. search (rules, copy-laws))
-    (λ c. search (rules, copy-laws)) (λ c. search (rules, copy-laws)) (λ c. search (rules, copy-laws)) (λ c. search (rules, copy-laws))
-    (λ c. search (rules, copy-laws)) (λ c. search (rules, copy-laws)) (λ c. search (rules, copy-laws)))
+    tie.close (tie.spec invariant-loop decreases-loop (λ c. search (rules, copy_laws)) (λ c. search (rules, copy_laws)) (λ c. search (rules, copy_laws))
+    (λ c. search (rules, copy_laws)) (λ c. search (rules, copy_laws)) (λ c. search (rules, copy_laws)) (λ c. search (rules, copy_laws))
+    (λ c. search (rules, copy_laws)) (λ c. search (rules, copy_laws)) (λ c. search (rules, copy_laws)))

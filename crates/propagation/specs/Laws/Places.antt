@@ -157,7 +157,7 @@ module _ {base y m on off l : ℕ} (d : l ≡ diff (union y m) (union on off)) w
       go false (inl t) f = absurd (n (d ∙ conflict_left y m on off t))
       go false (inr t) f = (t, λ k. not_above k.place f)
 
-pub ruleset hand-laws = (handed_conflict, handed_above)
+pub ruleset hand_laws = (handed_conflict, handed_above)
 
 -- ---- the variables of a rule that are not set
 

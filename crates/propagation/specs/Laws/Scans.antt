@@ -133,6 +133,6 @@ scan_rest {k} {x} {ys} {ns} {on} {off} {q} {r} p e s = record { said = go r s.sa
 pub chosen : {ys ns : List ℕ} {on off x v : ℕ} → ToTry ys ns on off x → Lowest x v → Chosen ys ns on off v
 chosen {ys} {ns} {on} {off} {x} {v} t l = record { small = l.within; among = x; opened = t.opened; member = l.least.member }
 
-pub ruleset range-laws = (range_start, range_quiet, range_conflict, range_unit, range_done)
+pub ruleset range_laws = (range_start, range_quiet, range_conflict, range_unit, range_done)
 
-pub ruleset scan-laws = (scan_conflict, scan_unit, scan_rest)
+pub ruleset scan_laws = (scan_conflict, scan_unit, scan_rest)

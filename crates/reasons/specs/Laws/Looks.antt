@@ -49,7 +49,7 @@ module _ {ws : List ℕ} {aim : Aim} {part : Part} {ms : List ℕ} {used : ℕ} 
                 by_cases (ℕ_discrete (bit kept v) 1) (λ i. omega (arith, ap (λ (m : ℕ). bit m v) e, (l.of_set v i).0))
                 (λ i. omega (arith, bit_le kept v))
 
-pub ruleset look-laws = (look_dead, look_rows, look_open)
+pub ruleset look_laws = (look_dead, look_rows, look_open)
 
 -- ---- `refill`
 
@@ -61,4 +61,4 @@ module _ {n : ℕ} {ys ns ms : List ℕ} where
       → a ≡ Found f → Stored ms state f us r → state.best ≡ best → Refilled n ys ns best us r
   refill_stored p s e t d = record { same_best = t.same_best ∙ d; pooled = pool_kept p (found_obeys s e) t.kept }
 
-pub ruleset refill-laws = (refill_same, refill_stored)
+pub ruleset refill_laws = (refill_same, refill_stored)

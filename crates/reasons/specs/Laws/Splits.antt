@@ -107,7 +107,7 @@ module _ {limit w left : ℕ} {state : State} (e : left ≡ inter w limit) where
 pub split_rows : {ws : List ℕ} {limit left : ℕ} (w : ℕ) → Rows ws limit → left ≡ inter w limit → Rows ws left
 split_rows {limit = limit} w r e = record { rows = rw e (omega (arith, and_le_r w limit, r.rows)) }
 
-pub ruleset split-at-laws = (split_none, split_item, split_rows)
+pub ruleset split_at_laws = (split_none, split_item, split_rows)
 
 -- ---- `split_part`
 
@@ -190,4 +190,4 @@ module _ {n : ℕ} {ys ns ws : List ℕ} {aim : Aim} {part : Part} {ms : List �
         in_known : Within o.limit (union aim.on aim.off)
         in_known = within_trans o.limit part.limit (union aim.on aim.off) opened.said.0.smaller x.known
 
-pub ruleset split-laws = (explore_aimed, split_dead, split_room, split_limit, split_open, split_found, split_model)
+pub ruleset split_laws = (explore_aimed, split_dead, split_room, split_limit, split_open, split_found, split_model)

@@ -4,7 +4,7 @@
 use Prim.Native.Nat.{ℕ, ◌+◌, ◌*◌, ◌<◌}
 use borrow.Author.Rules.{rules}
 use Rattle.sat.specs.Promises.{unset}
-use Rattle.sat.specs.Laws.Searches.{follow-laws, force-laws, force_lowest, force_handed, try-laws, try_unset, try_forcing}
+use Rattle.sat.specs.Laws.Searches.{follow_laws, force_laws, force_lowest, force_handed, try_laws, try_unset, try_forcing}
 use borrow.Fn.Kinds.{In}
 use borrow.Fn.PlainCycle.{Measures, is, falls, and}
 use Rattle.sat.proofs.follow.Reads as follow
@@ -98,17 +98,17 @@ pub +follow-force-try-variable-spec : {M : Type 1} → statement M
 +follow-force-try-variable-spec =
     close μ-follow μ-force μ-try-variable
     (λ t. follow-lts.spec (follow_claims t) (follow_at t) follow.Post
-    (λ c κs. search (rules, follow-laws)) (λ c. search (rules, follow-laws)) (λ c. search (rules, follow-laws))
-    (λ c κs. search (rules, follow-laws)) (λ c. search (rules, follow-laws)) (λ c κs. search (rules, follow-laws))
-    (λ c. search (rules, follow-laws)) (λ c κs. search (rules, follow-laws)) (λ c. search (rules, follow-laws))
-    (λ c. search (rules, follow-laws)) (λ c. search (rules, follow-laws)))
+    (λ c κs. search (rules, follow_laws)) (λ c. search (rules, follow_laws)) (λ c. search (rules, follow_laws))
+    (λ c κs. search (rules, follow_laws)) (λ c. search (rules, follow_laws)) (λ c κs. search (rules, follow_laws))
+    (λ c. search (rules, follow_laws)) (λ c κs. search (rules, follow_laws)) (λ c. search (rules, follow_laws))
+    (λ c. search (rules, follow_laws)) (λ c. search (rules, follow_laws)))
     (λ t. force-lts.spec (force_claims t) (force_at t) force.Post
-    (λ c κs. search (rules, force-laws)) (λ c κs. search (rules, force-laws)) (λ c κs. search (rules, force-laws))
-    (λ c κs. search (rules, force-laws)) (λ c κs. search (rules, force-laws)) (λ c. search (rules, force-laws))
-    (λ c. search (rules, force-laws)) (λ c κs. search (rules, force-laws)) (force_returns t)
-    (λ c κs. search (rules, force-laws)) (λ c. search (rules, force-laws)) (λ c. search (rules, force-laws)))
+    (λ c κs. search (rules, force_laws)) (λ c κs. search (rules, force_laws)) (λ c κs. search (rules, force_laws))
+    (λ c κs. search (rules, force_laws)) (λ c κs. search (rules, force_laws)) (λ c. search (rules, force_laws))
+    (λ c. search (rules, force_laws)) (λ c κs. search (rules, force_laws)) (force_returns t)
+    (λ c κs. search (rules, force_laws)) (λ c. search (rules, force_laws)) (λ c. search (rules, force_laws)))
     (λ t. try-variable-lts.spec (try_claims t) (try_variable_at t) try-variable.Post
-    (λ c κs. search (rules, try-laws)) (λ c κs. search (rules, try-laws)) (λ c κs. search (rules, try-laws))
-    (λ c κs. search (rules, try-laws)) (λ c κs. search (rules, try-laws)) (λ c. search (rules, try-laws))
-    (λ c. search (rules, try-laws)) (λ c κs. search (rules, try-laws)) (λ c. search (rules, try-laws))
-    (try_variable_force_requires t) (λ c. search (rules, try-laws)) (λ c. search (rules, try-laws)))
+    (λ c κs. search (rules, try_laws)) (λ c κs. search (rules, try_laws)) (λ c κs. search (rules, try_laws))
+    (λ c κs. search (rules, try_laws)) (λ c κs. search (rules, try_laws)) (λ c. search (rules, try_laws))
+    (λ c. search (rules, try_laws)) (λ c κs. search (rules, try_laws)) (λ c. search (rules, try_laws))
+    (try_variable_force_requires t) (λ c. search (rules, try_laws)) (λ c. search (rules, try_laws)))

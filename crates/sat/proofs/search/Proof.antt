@@ -2,7 +2,7 @@
 -- not set. Assumes nothing.
 use borrow.Author.Rules.{rules}
 use Rattle.sat.specs.Promises.{unset, Keeps}
-use Rattle.sat.specs.Laws.Searches.{search-laws}
+use Rattle.sat.specs.Laws.Searches.{search_laws}
 use Rattle.sat.proofs.search.Statement.{statement}
 use Rattle.sat.proofs.search.Tie as tie
 
@@ -15,8 +15,8 @@ decreases-loop n yes' no' prefer q₀ hints q = unset n q.on q.off
 pub search_spec : {M : Type 1} → statement M
 search_spec =
     tie.close (tie.spec invariant-loop decreases-loop
-    (λ c. search (rules, search-laws)) (λ c κs. search (rules, search-laws)) (λ c κs. search (rules, search-laws))
-    (λ c. search (rules, search-laws)) (λ c. search (rules, search-laws)) (λ c. search (rules, search-laws))
-    (λ c κs. search (rules, search-laws)) (λ c. search (rules, search-laws)) (λ c κs. search (rules, search-laws))
-    (λ c κs. search (rules, search-laws)) (λ c κs. search (rules, search-laws)) (λ c. search (rules, search-laws))
-    (λ c. search (rules, search-laws)))
+    (λ c. search (rules, search_laws)) (λ c κs. search (rules, search_laws)) (λ c κs. search (rules, search_laws))
+    (λ c. search (rules, search_laws)) (λ c. search (rules, search_laws)) (λ c. search (rules, search_laws))
+    (λ c κs. search (rules, search_laws)) (λ c. search (rules, search_laws)) (λ c κs. search (rules, search_laws))
+    (λ c κs. search (rules, search_laws)) (λ c κs. search (rules, search_laws)) (λ c. search (rules, search_laws))
+    (λ c. search (rules, search_laws)))

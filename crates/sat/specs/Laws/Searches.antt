@@ -213,11 +213,11 @@ module _ {n : ℕ} {ys ns : List ℕ} {on off base x : ℕ} where
           }
 
 -- the steps of the three functions that call each other
-pub ruleset follow-laws = (posed_partial, follow_conflict, follow_unit, follow_model, follow_trying)
+pub ruleset follow_laws = (posed_partial, follow_conflict, follow_unit, follow_model, follow_trying)
 
-pub ruleset force-laws = (force_some, force_lowest, force_following, force_less, branch_model, force_handed, force_resolved)
+pub ruleset force_laws = (force_some, force_lowest, force_following, force_less, branch_model, force_handed, force_resolved)
 
-pub ruleset try-laws = (try_unset, try_following, try_less, branch_model, try_handed, try_forcing)
+pub ruleset try_laws = (try_unset, try_following, try_less, branch_model, try_handed, try_forcing)
 
 -- ---- `search`
 
@@ -264,7 +264,7 @@ module _ {n : ℕ} {ys ns : List ℕ} {on off : ℕ} where
           search_less =
               omega (arith, unset_less {a = c} {b = g} k.posed (forced_unset implied forces_here) s)
 
-pub ruleset search-laws = (search_start, search_following, search_model, search_none, search_forced, search_less)
+pub ruleset search_laws = (search_start, search_following, search_model, search_none, search_forced, search_less)
 
 -- ---- what a caller reads of the answer
 

@@ -4,7 +4,7 @@ use lib.ListN.{length}
 use native.Mathlib.Omega.{arith}
 use borrow.Author.Rules.{rules}
 use Rattle.step.specs.Promises.{Searching}
-use Rattle.step.specs.Laws.AllGoals.{searching_more, searching-laws}
+use Rattle.step.specs.Laws.AllGoals.{searching_more, searching_laws}
 use Rattle.step.proofs.cheapest_under.Statement.{statement}
 use Rattle.step.proofs.cheapest_under.Tie as tie
 
@@ -32,8 +32,8 @@ loop_again c =
 
 pub cheapest_under_spec : {M : Type 1} → statement M
 cheapest_under_spec =
-    tie.close (tie.spec invariant-loop decreases-loop (λ c κs. search (rules, searching-laws)) (λ c. (refl, search (rules, searching-laws)))
-    (λ c κs. search (rules, searching-laws)) (λ c κs. search (rules, searching-laws)) (λ c κs. search (rules, searching-laws))
-    (λ c κs. search (rules, searching-laws)) (λ c. sym c.before.before.before.before.before.before.before.loop.invariant.0)
-    (λ c κs. search (rules, searching-laws)) (λ c κs. search (rules, searching-laws)) (λ c. search (rules, searching-laws)) loop_again
-    (λ c. search (rules, searching-laws)))
+    tie.close (tie.spec invariant-loop decreases-loop (λ c κs. search (rules, searching_laws)) (λ c. (refl, search (rules, searching_laws)))
+    (λ c κs. search (rules, searching_laws)) (λ c κs. search (rules, searching_laws)) (λ c κs. search (rules, searching_laws))
+    (λ c κs. search (rules, searching_laws)) (λ c. sym c.before.before.before.before.before.before.before.loop.invariant.0)
+    (λ c κs. search (rules, searching_laws)) (λ c κs. search (rules, searching_laws)) (λ c. search (rules, searching_laws)) loop_again
+    (λ c. search (rules, searching_laws)))

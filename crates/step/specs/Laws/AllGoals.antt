@@ -97,7 +97,7 @@ module _ {n : ℕ} {ys ns : List ℕ} {table : List (List ℕ)} {c k : LiteralSe
       → rest ≡ remove left v → rest < left
   searching_less {left} {v} s l e = omega (arith, e, remove_less left v l.least.member)
 
-pub ruleset searching-laws = (searching_start, searching_pooled, searching_row, searching_explore, searching_more, searching_less, searching_done)
+pub ruleset searching_laws = (searching_start, searching_pooled, searching_row, searching_explore, searching_more, searching_less, searching_done)
 
 -- ---- the bound: all that is known with the lowest goal
 
@@ -144,4 +144,4 @@ module _ {n : ℕ} {ys ns : List ℕ} {table : List (List ℕ)} {c k : LiteralSe
                 (b ∙ bound_key ∙ aim_key x.ready ch v lowest_open (union k.yes k.no) w (within_refl (union k.yes k.no)));
           }
 
-pub ruleset bound-laws = (bound_apart, bound_some, bound_row, bound_small, bound_least)
+pub ruleset bound_laws = (bound_apart, bound_some, bound_row, bound_small, bound_least)

@@ -93,9 +93,9 @@ module _ {b : Bounds} {o : ℕ} where
       → r.witness ≡ b.witness → Charged left b o less r
   charge_some {amount = amount} t e w = record { amount = amount; taken = t; more = e; same_witness = w }
 
-pub ruleset noted-laws = (noted_old, noted_new)
+pub ruleset noted_laws = (noted_old, noted_new)
 
-pub ruleset charge-laws = (charge_none, charge_rows, charge_fits, charge_some)
+pub ruleset charge_laws = (charge_none, charge_rows, charge_fits, charge_some)
 
 -- ---- `bound_part`
 
@@ -190,4 +190,4 @@ module _ {ws : List ℕ} {aim : Aim} {part : Part} {ms : List ℕ} {used : ℕ} 
                 subst (λ (m : ℕ). Hit (Meeting aim ms used) part.chosen part.limit m) (sym (g.same_witness ∙ e))
                 (x.witnessed.hits (λ z. k (g.same_witness ∙ e ∙ z)))
 
-pub ruleset charging-laws = (shown_opens, charging_start, charging_done, charging_none, charging_room, charging_more)
+pub ruleset charging_laws = (shown_opens, charging_start, charging_done, charging_none, charging_room, charging_more)

@@ -64,7 +64,7 @@ pub ask_said : {n : ℕ} {ys ns : List ℕ} {aim : Aim} {s on off : ℕ} {r : Se
     → Searched n ys ns (aim_on aim s) (aim_off aim s) r
 ask_said a s = rw (a.on_said, a.off_said) at s
 
-pub ruleset ask-laws = (ask_goal, ask_posed, ask_said)
+pub ruleset ask_laws = (ask_goal, ask_posed, ask_said)
 
 -- ---- the pool
 

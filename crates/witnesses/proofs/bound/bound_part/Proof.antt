@@ -5,7 +5,7 @@ use mathlib.Core.Path.{refl}
 use Prim.Native.Nat.{◌-◌}
 use native.Mathlib.Omega.{arith}
 use Rattle.witnesses.specs.Promises.{Charging}
-use Rattle.witnesses.specs.Laws.Bounds.{shown_opens, charging_none, charging-laws}
+use Rattle.witnesses.specs.Laws.Bounds.{shown_opens, charging_none, charging_laws}
 use Rattle.witnesses.proofs.bound.bound_part.Statement.{statement}
 use Rattle.witnesses.proofs.bound.bound_part.Tie as tie
 
@@ -25,9 +25,9 @@ returns c =
 
 pub bound_part_spec : {M : Type 1} → statement M
 bound_part_spec =
-    tie.close (tie.spec invariant-loop decreases-loop (λ c. search (rules, charging-laws)) (λ c. search (rules, charging-laws)) (λ c. search (rules, charging-laws))
-    (λ c κs. search (rules, charging-laws)) (λ c. search (rules, charging-laws)) (λ c. search (rules, charging-laws))
-    (λ c. search (rules, charging-laws)) returns (λ c κs. search (rules, charging-laws)) (λ c κs. search (rules, charging-laws))
-    (λ c. search (rules, charging-laws)) (λ c. search (rules, charging-laws)) (λ c. search (rules, charging-laws))
-    (λ c. search (rules, charging-laws)) (λ c. search (rules, charging-laws)) (λ c. search (rules, charging-laws))
-    (λ c. search (rules, charging-laws)) (λ c. search (rules, charging-laws)) (λ c. search (rules, charging-laws)))
+    tie.close (tie.spec invariant-loop decreases-loop (λ c. search (rules, charging_laws)) (λ c. search (rules, charging_laws)) (λ c. search (rules, charging_laws))
+    (λ c κs. search (rules, charging_laws)) (λ c. search (rules, charging_laws)) (λ c. search (rules, charging_laws))
+    (λ c. search (rules, charging_laws)) returns (λ c κs. search (rules, charging_laws)) (λ c κs. search (rules, charging_laws))
+    (λ c. search (rules, charging_laws)) (λ c. search (rules, charging_laws)) (λ c. search (rules, charging_laws))
+    (λ c. search (rules, charging_laws)) (λ c. search (rules, charging_laws)) (λ c. search (rules, charging_laws))
+    (λ c. search (rules, charging_laws)) (λ c. search (rules, charging_laws)) (λ c. search (rules, charging_laws)))

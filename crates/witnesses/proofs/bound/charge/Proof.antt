@@ -1,10 +1,10 @@
 -- `witnesses::bound::charge` meets its contract. Assumes nothing.
 use borrow.Author.Rules.{rules}
-use Rattle.witnesses.specs.Laws.Bounds.{charge-laws}
+use Rattle.witnesses.specs.Laws.Bounds.{charge_laws}
 use Rattle.witnesses.proofs.bound.charge.Statement.{statement}
 use Rattle.witnesses.proofs.bound.charge.Tie as tie
 
 pub charge_spec : {M : Type 1} → statement M
 charge_spec =
-    tie.close (tie.spec (λ c κs. search (rules, charge-laws)) (λ c. search (rules, charge-laws)) (λ c κs. search (rules, charge-laws))
-    (λ c. search (rules, charge-laws)) (λ c κs. search (rules, charge-laws)) (λ c. search (rules, charge-laws)) (λ c. search (rules, charge-laws)))
+    tie.close (tie.spec (λ c κs. search (rules, charge_laws)) (λ c. search (rules, charge_laws)) (λ c κs. search (rules, charge_laws))
+    (λ c. search (rules, charge_laws)) (λ c κs. search (rules, charge_laws)) (λ c. search (rules, charge_laws)) (λ c. search (rules, charge_laws)))
