@@ -5,7 +5,6 @@ use Rattle.dates.specs.Calendar.{is_date, earlier, weekday}
 use Rattle.dates.specs.declared.Moment.{Moment}
 use Rattle.dates.specs.declared.Window.{Window}
 use Rattle.dates.specs.declared.Applies.{Applies}
-use Rattle.dates.specs.declared.Applies.TheVariants as Applies
 
 -- A minute of a day: 0 to 1,439.
 unfoldable pub is_minute : ℕ → Bool

@@ -96,6 +96,7 @@ pub fn is_moment(m: Moment) -> bool
 }
 
 // Whether a window can be, checked from the left.
+#[tactic(auto, unfolding(crate::specs::Windows::is_window))]
 pub fn is_window(w: Window) -> bool
     ensures { result ≡ windows.is_window w }
 {
@@ -134,6 +135,7 @@ fn has_day(w: Window, d: Date) -> bool
 }
 
 // Whether a window is open at a moment, whose weekday is handed over so that it is worked out once for all rules.
+#[tactic(auto, using(crate::specs::Laws::Dates::weekday_bound), unfolding(crate::specs::Windows::is_open))]
 fn is_open(w: Window, m: Moment, weekday: u32) -> bool
     requires { weekday ≡ calendar.weekday m.date }
     ensures { result ≡ windows.is_open w m }
@@ -151,6 +153,7 @@ fn is_open(w: Window, m: Moment, weekday: u32) -> bool
 }
 
 // Whether a rule is in force at a moment.
+#[tactic(auto, unfolding(crate::specs::Windows::in_force))]
 pub fn in_force(a: Applies, m: Moment, weekday: u32) -> bool
     requires { weekday ≡ calendar.weekday m.date }
     ensures { result ≡ windows.in_force m a }

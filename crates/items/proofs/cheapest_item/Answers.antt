@@ -1,6 +1,6 @@
 -- `items::cheapest_item` meets its contract. Assumes nothing.
 use Rattle.std.proofs.Common.{arith, rules}
-use Rattle.items.specs.Laws.Weighing.{ItemGone, item_kept, item_other, item_laws}
+use Rattle.items.specs.Laws.Weighing.{item_kept, item_other, item_laws}
 use Rattle.items.proofs.cheapest_item.Goals as goal
 use Rattle.items.proofs.cheapest_item.Goals.{else-weights-v, then-weights-v}
 

@@ -1,5 +1,5 @@
 -- `items::cheapest_item` meets its contract. Assumes nothing.
-use Rattle.items.specs.Laws.Weighing.{ItemGone, item_kept, item_other, item_laws}
+use Rattle.items.specs.Laws.Weighing.{ItemGone}
 use Rattle.items.proofs.cheapest_item.Given as goal
 
 abbrev pub invariant-loop-rest : goal.invariant-loop-rest

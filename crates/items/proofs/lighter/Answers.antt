@@ -1,6 +1,6 @@
 -- `items::lighter` meets its contract. Assumes nothing.
 use Rattle.std.proofs.Common.{◌∙◌, arith, rules}
-use Rattle.items.specs.Laws.Weighing.{LighterGone, lighter_on, lighter_off, lighter_laws}
+use Rattle.items.specs.Laws.Weighing.{lighter_on, lighter_off, lighter_laws}
 use Rattle.items.proofs.lighter.Goals as goal
 use Rattle.items.proofs.lighter.Goals.{else-than-weights, then-than-weights}
 

@@ -1,5 +1,5 @@
 -- `items::lighter` meets its contract. Assumes nothing.
-use Rattle.items.specs.Laws.Weighing.{LighterGone, lighter_on, lighter_off, lighter_laws}
+use Rattle.items.specs.Laws.Weighing.{LighterGone}
 use Rattle.items.proofs.lighter.Given as goal
 
 abbrev pub invariant-loop-rest : goal.invariant-loop-rest

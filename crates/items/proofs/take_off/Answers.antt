@@ -1,6 +1,6 @@
 -- `items::take_off` meets its contract. Assumes nothing.
 use Rattle.std.proofs.Common.{rules}
-use Rattle.items.specs.Laws.Weighing.{TakenOffGone, take_laws}
+use Rattle.items.specs.Laws.Weighing.{take_laws}
 use Rattle.items.proofs.take_off.Goals as goal
 
 pub loop-rest-init : goal.loop-rest-init

@@ -1,5 +1,5 @@
 -- `items::take_off` meets its contract. Assumes nothing.
-use Rattle.items.specs.Laws.Weighing.{TakenOffGone, take_laws}
+use Rattle.items.specs.Laws.Weighing.{TakenOffGone}
 use Rattle.items.proofs.take_off.Given as goal
 
 abbrev pub invariant-loop-rest : goal.invariant-loop-rest

@@ -4,29 +4,26 @@ use Rattle.std.proofs.Common.{refl, arith, pos}
 use mir.Syntax.{w16}
 use mir.Facts.{to_z-of_z}
 use Rattle.literals.specs.Literal.{byte_of}
-use Rattle.literals.proofs.Signed.{Wrapped, wrapped, plain, itself}
+use Rattle.literals.proofs.Signed.{wrapped, plain, itself}
 use Rattle.literals.proofs.to_byte.Goals as goal
 
-negative : (c : tie.Then1) → Wrapped c.before.args.l
-negative c = wrapped _ c.before.ranges.l c.if1.true
-
 pub overflow_cast-result : goal.overflow_cast-result
-overflow_cast-result c = (negative c).wide
+overflow_cast-result c = (wrapped _ c.ranges.l c.if-l-lt0.true).wide
 
 pub overflow_add-result : goal.overflow_add-result
-overflow_add-result c = rw (negative c).value (record { sfits = omega (arith, (negative c).small) })
+overflow_add-result c = rw (wrapped _ c.ranges.l c.if-l-lt0.true).value (record { sfits = omega (arith, (wrapped _ c.ranges.l c.if-l-lt0.true).small) })
 
 pub overflow_cast-result-then-l-lt0 : goal.overflow_cast-result-then-l-lt0
-overflow_cast-result-then-l-lt0 c = rw (negative c).value
-    (rw (to_z-of_z {w = w16} {z = pos (byte_of c.args.l)} (record { sfits = omega (arith, (negative c).small) }))
-    (tt, record { fits = (negative c).small }))
+overflow_cast-result-then-l-lt0 c = rw (wrapped _ c.ranges.l c.if-l-lt0.true).value
+    (rw (to_z-of_z {w = w16} {z = pos (byte_of c.args.l)} (record { sfits = omega (arith, (wrapped _ c.ranges.l c.if-l-lt0.true).small) }))
+    (tt, record { fits = (wrapped _ c.ranges.l c.if-l-lt0.true).small }))
 
 pub overflow_cast-result-else-l-lt0 : goal.overflow_cast-result-else-l-lt0
 overflow_cast-result-else-l-lt0 c = rw (to_z-of_z c.ranges.l) (plain _ c.ranges.l c.if-l-lt0.false)
 
 pub returns-then-l-lt0 : goal.returns-then-l-lt0
-returns-then-l-lt0 c = rw (negative c).value
-    (rw (to_z-of_z {w = w16} {z = pos (byte_of c.args.l)} (record { sfits = omega (arith, (negative c).small) })) refl)
+returns-then-l-lt0 c = rw (wrapped _ c.ranges.l c.if-l-lt0.true).value
+    (rw (to_z-of_z {w = w16} {z = pos (byte_of c.args.l)} (record { sfits = omega (arith, (wrapped _ c.ranges.l c.if-l-lt0.true).small) })) refl)
 
 pub returns-else-l-lt0 : goal.returns-else-l-lt0
 returns-else-l-lt0 c = rw (to_z-of_z c.ranges.l) (itself _ c.ranges.l c.if-l-lt0.false)

@@ -5,21 +5,27 @@ use Rattle.literals.specs.Literal.{variable}
 use Rattle.literals.proofs.WithLaws.{with_literal}
 use Rattle.literals.proofs.LiteralSet.with.Goals as goal
 
--- the variable that was asked for is that of `l`: a signed argument is handed over by its bits
-told : (c : tie.After-variable) → c.variable.result ≡ variable c.before.args.l
-told c = rw (to_z-of_z c.before.ranges.l) at c.variable.ensures
-
 pub overflow_sub-v : goal.overflow_sub-v
-overflow_sub-v c = omega (arith, told c)
+overflow_sub-v c =
+    let told : c.variable.result ≡ variable c.args.l = rw (to_z-of_z c.ranges.l) at c.variable.ensures in
+    omega (arith, told)
 
 pub insert-requires : goal.insert-requires
-insert-requires c = omega (arith, told c)
+insert-requires c =
+    let told : c.variable.result ≡ variable c.args.l = rw (to_z-of_z c.ranges.l) at c.variable.ensures in
+    omega (arith, told)
 
 pub insert-requires-else-l-gt0 : goal.insert-requires-else-l-gt0
-insert-requires-else-l-gt0 c = omega (arith, told c)
+insert-requires-else-l-gt0 c =
+    let told : c.variable.result ≡ variable c.args.l = rw (to_z-of_z c.ranges.l) at c.variable.ensures in
+    omega (arith, told)
 
 pub returns-then-l-gt0 : goal.returns-then-l-gt0
-returns-then-l-gt0 c = with_literal _ _ _ true _ c.ranges.l c.requires.0 c.if-l-gt0.true (told c) c.insert.ensures
+returns-then-l-gt0 c =
+    let told : c.variable.result ≡ variable c.args.l = rw (to_z-of_z c.ranges.l) at c.variable.ensures in
+    with_literal _ _ _ true _ c.ranges.l c.requires.l_nonzero c.if-l-gt0.true told c.insert.ensures
 
 pub returns-else-l-gt0 : goal.returns-else-l-gt0
-returns-else-l-gt0 c = with_literal _ _ _ false _ c.ranges.l c.requires.0 c.if-l-gt0.false (told c) c.insert-else-l-gt0.ensures
+returns-else-l-gt0 c =
+    let told : c.variable.result ≡ variable c.args.l = rw (to_z-of_z c.ranges.l) at c.variable.ensures in
+    with_literal _ _ _ false _ c.ranges.l c.requires.l_nonzero c.if-l-gt0.false told c.insert-else-l-gt0.ensures
