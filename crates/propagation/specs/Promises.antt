@@ -3,9 +3,7 @@ use Rattle.std.specs.Prelude.{◌≡◌, ℕ, ◌+◌, ◌^◌, ◌<◌, ◌≤�
 use Rattle.sets.specs.Sets.{width, bit, union, insert, remove, Within, Apart}
 use Rattle.literals.specs.Truth.{obeys_masks}
 use Rattle.propagation.specs.declared.pass.Look.{Look}
-use Rattle.propagation.specs.declared.pass.Look.TheVariants as Look
 use Rattle.propagation.specs.declared.pass.Pass.{Pass}
-use Rattle.propagation.specs.declared.pass.Pass.TheVariants as Pass
 
 -- ---- setting a variable
 

@@ -8,10 +8,8 @@ use Rattle.sets.specs.Laws.Bits.{bit_le, bit_zero, bit_union, union_lt}
 use Rattle.sets.specs.Laws.Subset.{within_refl, within_le, union_none}
 use Rattle.propagation.specs.Promises.{LeftOpen, Looked, RuleAt, Open, ToTry, Chosen, Gives, Passed, PassedRange, PassedAll, LeftBetween, LeftByAll}
 use Rattle.propagation.specs.declared.pass.Look.{Look}
-use Rattle.propagation.specs.declared.pass.Look.TheVariants as Look
 use Rattle.propagation.specs.declared.pass.Rule.{Rule}
 use Rattle.propagation.specs.declared.pass.Pass.{Pass}
-use Rattle.propagation.specs.declared.pass.Pass.TheVariants as Pass
 
 -- nothing is open
 open_none : (ys ns : List ℕ) (on off : ℕ) → Open ys ns on off 0
