@@ -3,7 +3,7 @@
 use mathlib.Core.Path.{◌≡◌, refl, sym, ap, ap₂, ◌∙◌}
 use mathlib.Core.Bool.{Bool, true, false, cond, ◌&&◌, and-false, false≢true}
 use mathlib.Core.List.{List, [], ◌∷◌, ◌++◌, map, map-append}
-use Prim.Native.Nat.{ℕ, ◌+◌, ◌-◌, ◌≤◌, ◌<◌, zero-le}
+use Prim.Native.Nat.{ℕ, ◌+◌, ◌≤◌, ◌<◌, zero-le}
 use native.Mathlib.Numerals.{add-one}
 use native.Mathlib.Omega.{arith}
 use borrow.Author.Tests.{lt-ltb, le-ltb, le-leb, lt-leb, ltb-true, leb-true}
@@ -21,7 +21,6 @@ use Rattle.literals.specs.declared.LiteralSet.{LiteralSet}
 use Rattle.records.specs.Format.{rising}
 use Rattle.records.specs.Promises.{literals_answer, masks}
 use Rattle.records.specs.declared.rules.LiteralsRead.{LiteralsRead}
-use Rattle.records.specs.declared.rules.LiteralsRead.TheVariants as LiteralsRead
 
 -- a literal that fits a signed byte is the one that it is handed over as
 pub handed_byte : {z l : Literal} → SFits w8 z → z ≡ l → to_z w8 (of_z w8 z) ≡ l

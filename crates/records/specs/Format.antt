@@ -6,7 +6,6 @@ use Rattle.dates.specs.Windows.{is_window}
 use Rattle.dates.specs.declared.Date.{Date}
 use Rattle.dates.specs.declared.Window.{Window}
 use Rattle.dates.specs.declared.Applies.{Applies}
-use Rattle.dates.specs.declared.Applies.TheVariants as Applies
 use Rattle.records.specs.Limits.{max_variables, max_choices, max_rules, max_cost, max_literals, window_size}
 
 -- ---- what a book says

@@ -6,20 +6,13 @@ use Rattle.literals.specs.Truth.{yes_mask, no_mask}
 use Rattle.literals.specs.declared.LiteralSet.{LiteralSet}
 use Rattle.records.specs.Format.{RecordRead, says, fails, Header, Cost, rising}
 use Rattle.records.specs.declared.costs.CostRead.{CostRead}
-use Rattle.records.specs.declared.costs.CostRead.TheVariants as CostRead
 use Rattle.records.specs.declared.header.HeaderRead.{HeaderRead}
-use Rattle.records.specs.declared.header.HeaderRead.TheVariants as HeaderRead
 use Rattle.records.specs.declared.rules.LiteralsRead.{LiteralsRead}
-use Rattle.records.specs.declared.rules.LiteralsRead.TheVariants as LiteralsRead
 use Rattle.records.specs.declared.rules.RuleRead.{RuleRead}
-use Rattle.records.specs.declared.rules.RuleRead.TheVariants as RuleRead
 use Rattle.dates.specs.declared.Window.{Window}
 use Rattle.records.specs.declared.windows.WindowRead.{WindowRead}
-use Rattle.records.specs.declared.windows.WindowRead.TheVariants as WindowRead
 use Rattle.records.specs.declared.facts.FactRead.{FactRead}
-use Rattle.records.specs.declared.facts.FactRead.TheVariants as FactRead
 use Rattle.records.specs.declared.mark.Check.{Check}
-use Rattle.records.specs.declared.mark.Check.TheVariants as Check
 
 unfoldable pub check_answer : RecordRead (Unit {0}) → Check
 check_answer (says u len) = Check.Passes

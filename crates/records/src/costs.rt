@@ -13,6 +13,7 @@ pub enum CostRead {
 }
 
 // A two-byte number, the high byte first.
+#[tactic(auto, unfolding(crate::specs::Format::pair))]
 pub fn pair_at(s: &[u8], i: usize) -> u16
     requires { i + 1 < length s.now }
     ensures { result ≡ pair s.now i }
@@ -30,6 +31,7 @@ fn is_cost(n: u16) -> bool
 }
 
 // The CS record at the beginning of a part, for the choice that is due.
+#[tactic(auto, using(crate::proofs::CheckLaws::opened_fails, crate::proofs::CheckLaws::opened_passes, crate::proofs::CheckLaws::opened_within), unfolding(crate::specs::Format::cost_at, crate::specs::Promises::cost_answer))]
 pub fn read_cost(s: &[u8], due: usize) -> CostRead
     ensures { result ≡ cost_answer (cost_at due s.now) }
 {
@@ -40,6 +42,7 @@ pub fn read_cost(s: &[u8], due: usize) -> CostRead
 }
 
 // The values of a CS record whose fields are all there.
+#[tactic(auto, using(dates::proofs::Tests::found_false, dates::proofs::Tests::found_true), unfolding(crate::specs::Format::cost_values, crate::specs::Promises::cost_answer))]
 fn cost_values(s: &[u8], due: usize) -> CostRead
     requires { 7 ≤ length s.now }
     ensures { result ≡ cost_answer (cost_values due s.now) }

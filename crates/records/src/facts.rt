@@ -13,6 +13,7 @@ pub enum FactRead {
 }
 
 // The FA record at the beginning of a part, in a book of `u` choices, after a fact over the variable `last`.
+#[tactic(auto, using(crate::proofs::CheckLaws::opened_fails, crate::proofs::CheckLaws::opened_passes, crate::proofs::CheckLaws::opened_within), unfolding(crate::specs::Format::fact_at, crate::specs::Promises::fact_answer))]
 pub fn read_fact(s: &[u8], u: usize, last: usize) -> FactRead
     ensures { result ≡ fact_answer (fact_at u last s.now) }
 {
@@ -23,6 +24,7 @@ pub fn read_fact(s: &[u8], u: usize, last: usize) -> FactRead
 }
 
 // The literal of an FA record that is all there.
+#[tactic(auto, using(crate::proofs::LiteralLaws::handed_byte, crate::proofs::LiteralLaws::rising_low, crate::proofs::LiteralLaws::rising_high, crate::proofs::LiteralLaws::rising_more, crate::proofs::LiteralLaws::rising_none), unfolding(crate::specs::Format::fact_values, crate::specs::Promises::fact_answer))]
 fn fact_values(s: &[u8], u: usize, last: usize) -> FactRead
     requires { 3 ≤ length s.now }
     ensures { result ≡ fact_answer (fact_values u last s.now) }

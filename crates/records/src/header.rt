@@ -17,6 +17,7 @@ pub enum HeaderRead {
 }
 
 // The header at the beginning of a part.
+#[tactic(auto, using(crate::proofs::CheckLaws::opened_fails, crate::proofs::CheckLaws::opened_passes, crate::proofs::CheckLaws::opened_within), unfolding(crate::specs::Format::header_at, crate::specs::Promises::header_answer))]
 pub fn read_header(s: &[u8]) -> HeaderRead
     ensures { result ≡ header_answer (header_at s.now) }
 {

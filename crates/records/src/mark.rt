@@ -46,6 +46,7 @@ pub fn begins(s: &[u8], mark: [u8; 2]) -> bool
 }
 
 // The beginning of a record: its mark, and then `size` bytes in all.
+#[tactic(auto, using(dates::proofs::Tests::found_false, dates::proofs::Tests::found_true), unfolding(crate::specs::Format::opened, crate::specs::Promises::check_answer))]
 pub fn opened(s: &[u8], mark: [u8; 2], size: usize) -> Check
     ensures { result ≡ check_answer (opened mark size s.now) }
 {

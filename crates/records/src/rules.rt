@@ -46,6 +46,7 @@ fn read_literals(s: &[u8], n: usize) -> LiteralsRead
 }
 
 // The RL record at the beginning of a part, in a book of `n` variables.
+#[tactic(auto, using(crate::proofs::CheckLaws::opened_fails, crate::proofs::CheckLaws::opened_passes, crate::proofs::CheckLaws::opened_within), unfolding(crate::specs::Format::rule_at, crate::specs::Promises::rule_answer))]
 pub fn read_rule(s: &[u8], n: usize) -> RuleRead
     requires { n ≤ width }
     ensures { result ≡ rule_answer (rule_at n s.now) }
@@ -57,6 +58,7 @@ pub fn read_rule(s: &[u8], n: usize) -> RuleRead
 }
 
 // The RL record whose count is there. A count of 0 is read: no filling obeys such a rule.
+#[tactic(auto, using(crate::proofs::LiteralLaws::literals_fail, crate::proofs::LiteralLaws::literals_say), unfolding(crate::specs::Format::rule_values, crate::specs::Promises::rule_answer))]
 fn rule_values(s: &[u8], n: usize) -> RuleRead
     requires n_le_width { n ≤ width }
     requires in_bounds { 3 ≤ length s.now }

@@ -40,6 +40,7 @@ fn window_fields(s: &[u8]) -> Window
 }
 
 // The WN record at the beginning of a part.
+#[tactic(auto, using(crate::proofs::CheckLaws::opened_fails, crate::proofs::CheckLaws::opened_passes, crate::proofs::CheckLaws::opened_within), unfolding(crate::specs::Format::window_at, crate::specs::Promises::window_answer))]
 pub fn read_window(s: &[u8]) -> WindowRead
     ensures { result ≡ window_answer (window_at s.now) }
 {
@@ -50,6 +51,7 @@ pub fn read_window(s: &[u8]) -> WindowRead
 }
 
 // The values of a WN record whose fields are all there.
+#[tactic(auto, using(dates::proofs::Tests::found_false, dates::proofs::Tests::found_true), unfolding(crate::specs::Format::window_values, crate::specs::Promises::window_answer))]
 fn window_values(s: &[u8]) -> WindowRead
     requires { 15 ≤ length s.now }
     ensures { result ≡ window_answer (window_values s.now) }
