@@ -19,10 +19,8 @@ use Rattle.book.specs.Promises.{place_answer, rules_answer, facts_answer}
 use Rattle.book.specs.declared.Reading.{Reading}
 use Rattle.book.specs.declared.Verdict.TheVariants as Verdict
 use Rattle.book.specs.declared.PlaceAfter.{PlaceAfter}
-use Rattle.book.specs.declared.PlaceAfter.TheVariants as PlaceAfter
 use Rattle.book.specs.declared.rules.RulesRead.{RulesRead}
 use Rattle.book.specs.declared.facts.FactsRead.{FactsRead}
-use Rattle.book.specs.declared.facts.FactsRead.TheVariants as FactsRead
 
 -- ---- the answers of the parts, taken back
 

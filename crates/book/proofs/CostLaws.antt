@@ -13,7 +13,6 @@ use Rattle.records.specs.Format.{RecordRead, says, fails, value, refused, opened
 use Rattle.book.specs.Answer.{row}
 use Rattle.records.specs.Promises.{cost_answer}
 use Rattle.records.specs.declared.costs.CostRead.{CostRead}
-use Rattle.records.specs.declared.costs.CostRead.TheVariants as CostRead
 use Rattle.records.proofs.CheckLaws.{Good, says_same, checked_first_says, check_says, opened_says}
 use Rattle.book.proofs.ManyLaws.{Whole, part_from, WholeFrom, begun, begun_refused}
 use Rattle.book.proofs.ValueLaws.{GoodItem, begin_value}

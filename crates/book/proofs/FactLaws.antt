@@ -19,11 +19,8 @@ use Rattle.records.specs.Format.{fact_at, fact_values, begins, end_at, facts_fro
 use Rattle.records.specs.Promises.{masks, check_answer, fact_answer}
 use Rattle.book.specs.Promises.{facts_answer}
 use Rattle.records.specs.declared.mark.Check.{Check}
-use Rattle.records.specs.declared.mark.Check.TheVariants as Check
 use Rattle.records.specs.declared.facts.FactRead.{FactRead}
-use Rattle.records.specs.declared.facts.FactRead.TheVariants as FactRead
 use Rattle.book.specs.declared.facts.FactsRead.{FactsRead}
-use Rattle.book.specs.declared.facts.FactsRead.TheVariants as FactsRead
 use Rattle.records.proofs.CheckLaws.{Good, says_same, checked_first_says, check_says, opened_says, opened_fails, opened_passes}
 use Rattle.records.proofs.LiteralLaws.{masks_more, RisingHead, rising_head}
 use Rattle.book.proofs.ManyLaws.{part_from, part_from_lem, Whole, begun, begun_refused, begin_then, Due, due_refused, so_far_refused, so_far_all, Walked}

@@ -11,7 +11,6 @@ use Rattle.records.specs.Format.{RecordRead, says, fails, byte, opened, HD, Head
 use Rattle.records.specs.Promises.{header_answer}
 use Rattle.book.specs.Promises.{header_of}
 use Rattle.records.specs.declared.header.HeaderRead.{HeaderRead}
-use Rattle.records.specs.declared.header.HeaderRead.TheVariants as HeaderRead
 use Rattle.records.proofs.CheckLaws.{Good, says_same, checked_first_says, check_says, opened_says}
 
 pub header_fails : (m : RecordRead Header) {r : HeaderRead} {number : ℕ} → r ≡ header_answer m → r ≡ HeaderRead.Fails number → m ≡ fails number

@@ -16,11 +16,9 @@ use Rattle.records.specs.Format.{RecordRead, says, fails, Read, value, refused, 
 use Rattle.records.specs.Format.{rule_from}
 use Rattle.records.specs.Promises.{masks, rule_answer}
 use Rattle.records.specs.declared.rules.RuleRead.{RuleRead}
-use Rattle.records.specs.declared.rules.RuleRead.TheVariants as RuleRead
 use Rattle.records.proofs.CheckLaws.{Good, says_same, checked_first_says, check_says}
 use Rattle.book.specs.Promises.{rule_from_answer}
 use Rattle.book.specs.declared.rules.RuleFrom.{RuleFrom}
-use Rattle.book.specs.declared.rules.RuleFrom.TheVariants as RuleFrom
 use Rattle.book.proofs.ManyLaws.{Whole, WholeFrom, part_from, part_from_lem}
 use Rattle.book.proofs.ValueLaws.{GoodItem, begin_value, then_value}
 use Rattle.book.proofs.WindowLaws.{window_read}

@@ -9,16 +9,13 @@ use lib.ListN.{length, drop, length-drop}
 use Rattle.dates.specs.Windows.{is_window}
 use Rattle.dates.specs.declared.Window.{Window}
 use Rattle.dates.specs.declared.Applies.{Applies}
-use Rattle.dates.specs.declared.Applies.TheVariants as Applies
 use Rattle.records.specs.Limits.{window_size}
 use Rattle.records.specs.Format.{RecordRead, says, fails, Read, value, refused, begin, opened, begins, WN, window_fields, window_values, window_at, window_from}
 use Rattle.records.specs.Promises.{window_answer}
 use Rattle.records.specs.declared.windows.WindowRead.{WindowRead}
-use Rattle.records.specs.declared.windows.WindowRead.TheVariants as WindowRead
 use Rattle.records.proofs.CheckLaws.{says_same, checked_first_says, check_says, opened_says}
 use Rattle.book.specs.Promises.{window_from_answer}
 use Rattle.book.specs.declared.rules.WindowFrom.{WindowFrom}
-use Rattle.book.specs.declared.rules.WindowFrom.TheVariants as WindowFrom
 use Rattle.book.proofs.ManyLaws.{part_from, part_from_lem}
 use Rattle.book.proofs.ValueLaws.{begin_value}
 

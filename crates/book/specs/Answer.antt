@@ -8,7 +8,6 @@ use Rattle.records.specs.declared.Book.{Book}
 use Rattle.records.specs.declared.RuleWindow.{RuleWindow}
 use Rattle.book.specs.declared.Reading.{Reading}
 use Rattle.book.specs.declared.Verdict.{Verdict}
-use Rattle.book.specs.declared.Verdict.TheVariants as Verdict
 
 module _ {A : Type 0} where
   -- A list, and d after it up to n entries.

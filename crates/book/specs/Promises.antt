@@ -8,14 +8,10 @@ use Rattle.records.specs.Format.{Read, value, refused, Header, Rule}
 use Rattle.records.specs.Promises.{masks}
 use Rattle.book.specs.Answer.{padded, rule_yes, rule_no, rule_window, no_window}
 use Rattle.book.specs.declared.PlaceAfter.{PlaceAfter}
-use Rattle.book.specs.declared.PlaceAfter.TheVariants as PlaceAfter
 use Rattle.book.specs.declared.rules.WindowFrom.{WindowFrom}
-use Rattle.book.specs.declared.rules.WindowFrom.TheVariants as WindowFrom
 use Rattle.book.specs.declared.rules.RuleFrom.{RuleFrom}
-use Rattle.book.specs.declared.rules.RuleFrom.TheVariants as RuleFrom
 use Rattle.book.specs.declared.rules.RulesRead.{RulesRead}
 use Rattle.book.specs.declared.facts.FactsRead.{FactsRead}
-use Rattle.book.specs.declared.facts.FactsRead.TheVariants as FactsRead
 
 unfoldable pub place_answer : {A : Type 0} → Read A → PlaceAfter
 place_answer (value a place) = PlaceAfter.At place

@@ -1,0 +1,10 @@
+-- `book::facts::read_facts` meets its contract. Assumes nothing.
+use Rattle.std.proofs.Common.{◌-◌, length}
+use Rattle.book.proofs.FactLaws.{FactsWalked}
+use Rattle.book.proofs.facts.read_facts.Given as goal
+
+abbrev pub invariant-loop-set : goal.invariant-loop-set
+invariant-loop-set l = FactsWalked l.s l.u l.from l.set l.last l.place
+
+abbrev pub decreases-loop-set : goal.decreases-loop-set
+decreases-loop-set l = length l.s - l.place
