@@ -5,7 +5,6 @@ use Rattle.literals.specs.Truth.{obeys_masks}
 use Rattle.propagation.specs.Promises.{MasksBelow, ForcesOne, ToTry, Placed}
 use Rattle.sat.specs.Meaning.{obeys_all, Model, NoModel}
 use Rattle.sat.specs.declared.Branch.{Branch}
-use Rattle.sat.specs.declared.Branch.TheVariants as Branch
 use Rattle.sat.specs.declared.SearchResult.{SearchResult}
 use Rattle.sat.specs.declared.SearchResult.TheVariants.{Found, Nothing}
 

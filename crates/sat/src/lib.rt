@@ -72,6 +72,7 @@ fn force(
 // A branch from a partial filling on; `base` is what was set before the last try. What the rules force is set until they
 // force nothing more; then a variable is tried, unless each rule has a true literal.
 #[cycle(follow_force_try_variable)]
+#[tactic(auto, using(crate::specs::Laws::Searches::follow_laws))]
 fn follow(n: u32, yes: &[u64], no: &[u64], p: Partial, base: u64, hints: Hints) -> Branch
     requires { Following n yes.now no.now p.on p.off base }
     ensures { Followed n yes.now no.now p.on p.off base result }
@@ -129,6 +130,7 @@ fn try_variable(
 
 // A model that extends `p` and obeys every rule, or that there is none. A rule that fails at the top forces one more
 // variable, or shows that there is no model.
+#[tactic(auto, using(crate::specs::Laws::Searches::search_laws))]
 pub fn search(n: u32, yes: &[u64], no: &[u64], p: Partial, prefer: u64) -> SearchResult
     requires { Posed n yes.now no.now p.on p.off }
     ensures { Searched n yes.now no.now p.on p.off result }

@@ -12,13 +12,11 @@ use Rattle.propagation.specs.Laws.Places.{placed_acts, failed_acts, left_some, l
 use Rattle.propagation.specs.Laws.Resolution.{resolved_obeyed, resolved_conflicts}
 use Rattle.propagation.specs.declared.pass.Rule.{Rule}
 use Rattle.propagation.specs.declared.pass.Pass.{Pass}
-use Rattle.propagation.specs.declared.pass.Pass.TheVariants as Pass
 use Rattle.sat.specs.Meaning.{Model, NoModel}
 use Rattle.sat.specs.Promises.{Posed, Unset, unset, Implied, Following, Forcing, Trying, Ends, Followed, PartialOf, Completes, Keeps, Searched}
 use Rattle.sat.specs.Laws.Assigns.{model_assigned, assigned_model, posed_assigned, unset_less}
 use Rattle.sat.specs.Laws.Implied.{listed_implied, conflict_none, forced_value, met_model}
 use Rattle.sat.specs.declared.Branch.{Branch}
-use Rattle.sat.specs.declared.Branch.TheVariants as Branch
 use Rattle.sat.specs.declared.SearchResult.{SearchResult}
 use Rattle.sat.specs.declared.SearchResult.TheVariants.{Found, Nothing}
 
