@@ -5,6 +5,13 @@
 use dimacs::Imported;
 use printing::Printed;
 use records::Book;
+use std::fs;
+use std::fs::File;
+
+// Standard input and standard output.
+pub const STDIN: i32 = 0;
+
+pub const STDOUT: i32 = 1;
 
 // The bytes of a DIMACS CNF text that are read, at most.
 const MAX_INPUT: usize = 65536;
@@ -17,7 +24,7 @@ pub fn show(input: &[u8]) {
     let mut text = [0u8; printing::MAX_TEXT];
     match printing::print(input, &mut text) {
         Printed::Text(size) => {
-            io::write_all(libc::STDOUT_FILENO, &text[..size]);
+            io::write_all(STDOUT, &text[..size]);
         }
         Printed::Short => {}
     }
@@ -45,7 +52,7 @@ pub fn show_book(moment: [u8; printing::MOMENT_SIZE], fd: i32) {
 fn show_refusal(number: u8, place: usize) {
     let mut line = [0u8; MAX_LINE];
     let size = printing::put_refusal(&mut line, number, place);
-    io::write_all(libc::STDOUT_FILENO, &line[..size]);
+    io::write_all(STDOUT, &line[..size]);
 }
 
 // The bytes of the book that is made of a DIMACS CNF text, or only the refusal.
@@ -53,7 +60,7 @@ pub fn convert(text: &[u8]) {
     let mut book = [0u8; Book::MAX_WITHOUT_FACTS];
     match engine::read_dimacs(text, &mut book) {
         Imported::Written(size) => {
-            io::write_all(libc::STDOUT_FILENO, &book[..size]);
+            io::write_all(STDOUT, &book[..size]);
         }
         Imported::Refused { number, place } => show_refusal(number, place),
     }
@@ -66,13 +73,17 @@ pub fn convert_file(fd: i32) {
     convert(&space[..size]);
 }
 
-// Writes the name of a file of the folder that the program runs in, and opens it: what is answered is below 0 where there is none.
-pub fn open_named(path: &[u8]) -> i32 {
-    io::write_all(libc::STDOUT_FILENO, path);
-    io::write_all(libc::STDOUT_FILENO, b":\n");
-    let fd = os::open_read(path);
-    if fd < 0 {
-        io::write_all(libc::STDOUT_FILENO, b"no such file\n");
+// Writes the name of a file of the folder that the program runs in, and opens it: nothing is answered where there is none. A name
+// is UTF-8 text: other bytes name no file.
+pub fn open_named(rt: &HostRuntime, path: &[u8]) -> Option<File> {
+    io::write_all(STDOUT, path);
+    io::write_all(STDOUT, b":\n");
+    let file = match str::from_utf8(path) {
+        Ok(name) => fs::open(rt, name).ok(),
+        Err(_) => None,
+    };
+    if file.is_none() {
+        io::write_all(STDOUT, b"no such file\n");
     }
-    fd
+    file
 }

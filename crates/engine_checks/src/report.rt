@@ -2,12 +2,15 @@
 use crate::tally::Tally;
 use crate::{report_pairs, tally};
 
+// Standard output.
+const STDOUT: i32 = 1;
+
 pub fn write(text: &[u8]) {
-    io::write_all(libc::STDOUT_FILENO, text);
+    io::write_all(STDOUT, text);
 }
 
 pub fn number(n: u64) {
-    io::print_decimal(libc::STDOUT_FILENO, n);
+    io::print_decimal(STDOUT, n);
 }
 
 // The name of a group of books or of orders at the counter.

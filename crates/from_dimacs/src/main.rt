@@ -2,5 +2,5 @@
 #![tactic(auto)]
 
 fn main() {
-    console::convert_file(libc::STDIN_FILENO);
+    console::convert_file(console::STDIN);
 }

@@ -2,12 +2,15 @@
 use crate::tally;
 use crate::tally::{Numbers, Tally};
 
+// Standard output.
+const STDOUT: i32 = 1;
+
 fn write(text: &[u8]) {
-    io::write_all(libc::STDOUT_FILENO, text);
+    io::write_all(STDOUT, text);
 }
 
 fn number(n: u64) {
-    io::print_decimal(libc::STDOUT_FILENO, n);
+    io::print_decimal(STDOUT, n);
 }
 
 // The name of a group of texts.

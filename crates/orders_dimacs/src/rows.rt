@@ -6,6 +6,9 @@ use crate::tally::Tally;
 use samples::build;
 use samples::build::Draft;
 
+// Standard input.
+const STDIN: i32 = 0;
+
 // What the next byte of the table is taken for.
 const NUMBER: u8 = 0;
 
@@ -189,6 +192,6 @@ fn table(t: Tally, s: &[u8]) -> Tally {
 // Every row of the table on standard input.
 pub fn all(t: Tally) -> Tally {
     let mut space = io::large_buffer();
-    let size = io::read_full(libc::STDIN_FILENO, &mut space);
+    let size = io::read_full(STDIN, &mut space);
     table(t, &space[..size])
 }

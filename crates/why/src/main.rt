@@ -2,5 +2,5 @@
 #![tactic(auto)]
 
 fn main() {
-    console::show_file(libc::STDIN_FILENO);
+    console::show_file(console::STDIN);
 }

@@ -2,7 +2,9 @@
 // unless said.
 #![tactic(auto)]
 
+use console::STDOUT;
 use samples::{build, counter};
+use std::os::fd::AsRawFd;
 
 // One more than the number of the last book of `bench/`.
 const AFTER_LAST: u8 = 56;
@@ -23,56 +25,50 @@ fn moment(year: u16, month: u8, day: u8, minute: u16) -> [u8; 6] {
 }
 
 // The book in a file of the folder that the program runs in, at a moment.
-fn book_at(moment: [u8; 6], path: &[u8]) {
-    let fd = console::open_named(path);
-    if fd < 0 {
-        return;
+fn book_at(rt: &HostRuntime, moment: [u8; 6], path: &[u8]) {
+    if let Some(file) = console::open_named(rt, path) {
+        console::show_book(moment, file.as_raw_fd());
     }
-    console::show_book(moment, fd);
-    libc::close(fd);
 }
 
 // The same at noon.
-fn book(path: &[u8]) {
-    book_at(NOON, path);
+fn book(rt: &HostRuntime, path: &[u8]) {
+    book_at(rt, NOON, path);
 }
 
 // The same at a moment that is named on a line before it.
-fn dated(name: &[u8], moment: [u8; 6], path: &[u8]) {
-    io::write_all(libc::STDOUT_FILENO, name);
-    book_at(moment, path);
+fn dated(rt: &HostRuntime, name: &[u8], moment: [u8; 6], path: &[u8]) {
+    io::write_all(STDOUT, name);
+    book_at(rt, moment, path);
 }
 
 // The input in a file: the six bytes of a moment, and a book.
-fn input(path: &[u8]) {
-    let fd = console::open_named(path);
-    if fd < 0 {
-        return;
+fn input(rt: &HostRuntime, path: &[u8]) {
+    if let Some(file) = console::open_named(rt, path) {
+        console::show_file(file.as_raw_fd());
     }
-    console::show_file(fd);
-    libc::close(fd);
 }
 
 // The book of this number in `bench/`.
-fn bench(n: u8) {
+fn bench(rt: &HostRuntime, n: u8) {
     let mut path = *b"bench/00.book";
     path[6] = b'0' + n / 10;
     path[7] = b'0' + n % 10;
-    book(&path);
+    book(rt, &path);
 }
 
 // The book that is refused with this number, of one digit.
-fn refused(number: u8) {
+fn refused(rt: &HostRuntime, number: u8) {
     let mut path = *b"books/refused-0.book";
     path[14] = b'0' + number % 10;
-    book(&path);
+    book(rt, &path);
 }
 
 // The order at the counter of this letter, at noon.
 fn order(letter: u8) {
     let mut name = *b"order a:\n";
     name[6] = letter;
-    io::write_all(libc::STDOUT_FILENO, &name);
+    io::write_all(STDOUT, &name);
     let d = counter::order(letter);
     let bytes = d.bytes;
     let noon = build::bytes(build::empty(), &NOON);
@@ -85,16 +81,16 @@ fn order(letter: u8) {
 fn short_input(size: u8) {
     let mut name = *b"input of 0 bytes:\n";
     name[9] = b'0' + size % 10;
-    io::write_all(libc::STDOUT_FILENO, &name);
+    io::write_all(STDOUT, &name);
     let noon = NOON;
     console::show(build::part(&noon, size as usize));
 }
 
 // The books of `bench/`.
-fn bench_books() {
+fn bench_books(rt: &HostRuntime) {
     let end = AFTER_LAST;
     for n in 1..end {
-        bench(n);
+        bench(rt, n);
     }
 }
 
@@ -106,41 +102,59 @@ fn orders() {
 }
 
 // A book for each number that `why` can give. 8 is for a log's buffer that is too short, 10 for the next step.
-fn refused_books() {
+fn refused_books(rt: &HostRuntime) {
     for number in 1..8 {
-        refused(number);
+        refused(rt, number);
     }
-    refused(9);
-    book(b"books/refused-14.book");
+    refused(rt, 9);
+    book(rt, b"books/refused-14.book");
 }
 
 // P with a window for its third rule: from 1 March 2024 on and before 1 November, Monday to Friday, from 9:00 on and before 17:30.
 // In force on the first day at the first minute, and on the last day at the last minute; out of force a minute before the first one,
 // at the end minute, on the day before the first one, on the end day, and on a Saturday.
-fn season() {
+fn season(rt: &HostRuntime) {
     let path = b"books/season.book";
-    dated(b"1 March 2024, 9:00\n", moment(2024, 3, 1, 540), path);
+    dated(rt, b"1 March 2024, 9:00\n", moment(2024, 3, 1, 540), path);
     dated(
+        rt,
         b"31 October 2024, 17:29\n",
         moment(2024, 10, 31, 1049),
         path,
     );
-    dated(b"1 March 2024, 8:59\n", moment(2024, 3, 1, 539), path);
+    dated(rt, b"1 March 2024, 8:59\n", moment(2024, 3, 1, 539), path);
     dated(
+        rt,
         b"31 October 2024, 17:30\n",
         moment(2024, 10, 31, 1050),
         path,
     );
-    dated(b"29 February 2024, 12:00\n", moment(2024, 2, 29, 720), path);
-    dated(b"1 November 2024, 12:00\n", moment(2024, 11, 1, 720), path);
-    dated(b"2 March 2024, 12:00\n", moment(2024, 3, 2, 720), path);
+    dated(
+        rt,
+        b"29 February 2024, 12:00\n",
+        moment(2024, 2, 29, 720),
+        path,
+    );
+    dated(
+        rt,
+        b"1 November 2024, 12:00\n",
+        moment(2024, 11, 1, 720),
+        path,
+    );
+    dated(rt, b"2 March 2024, 12:00\n", moment(2024, 3, 2, 720), path);
 }
 
 // Moments that cannot be, before a damaged book and before P.
-fn impossible_moments() {
+fn impossible_moments(rt: &HostRuntime) {
     let damaged = b"books/refused-6.book";
-    dated(b"31 April 2024, 12:00\n", moment(2024, 4, 31, 720), damaged);
     dated(
+        rt,
+        b"31 April 2024, 12:00\n",
+        moment(2024, 4, 31, 720),
+        damaged,
+    );
+    dated(
+        rt,
         b"1 March 2024, 24:00\n",
         moment(2024, 3, 1, 1440),
         b"books/p.book",
@@ -155,16 +169,16 @@ fn short_inputs() {
 }
 
 // Then no byte, 5,000 bytes of which the first 3,655 are a book, a book with two reasons of equal cost, P, and windows and moments.
-fn main() {
+fn main(rt: HostRuntime) {
     orders();
-    bench_books();
-    refused_books();
-    book(b"books/empty.book");
-    book(b"books/long.book");
-    book(b"books/fewer-reasons.book");
-    book(b"books/p.book");
-    season();
-    impossible_moments();
+    bench_books(&rt);
+    refused_books(&rt);
+    book(&rt, b"books/empty.book");
+    book(&rt, b"books/long.book");
+    book(&rt, b"books/fewer-reasons.book");
+    book(&rt, b"books/p.book");
+    season(&rt);
+    impossible_moments(&rt);
     short_inputs();
-    input(b"books/noon.moment");
+    input(&rt, b"books/noon.moment");
 }

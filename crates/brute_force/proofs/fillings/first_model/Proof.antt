@@ -1,9 +1,0 @@
--- The loop counts `i` up to the length.
-use Rattle.std.proofs.Common.{◌-◌, rules}
-use Rattle.brute_force.proofs.fillings.first_model.Statement.{statement}
-use Rattle.brute_force.proofs.fillings.first_model.Tie as tie
-
-pub first_model_spec : {M : Type 1} → statement M
-first_model_spec =
-    tie.close (tie.spec (λ _ _ _ _ _ _ _. Unit {0}) (λ _ _ _ _ i-end _ i. i-end - i) (λ c. search rules) (λ c. search rules)
-    (λ c. search rules) (λ c κs. search rules) (λ c. search rules) (λ c. search rules) (λ c. search rules) (λ c. search rules))

@@ -1,9 +1,0 @@
--- The loop counts `i` up to `count`.
-use Rattle.std.proofs.Common.{◌-◌, rules}
-use Rattle.dimacs_texts.proofs.numbers.digits.Statement.{statement}
-use Rattle.dimacs_texts.proofs.numbers.digits.Tie as tie
-
-pub digits_spec : {M : Type 1} → statement M
-digits_spec =
-    tie.close (tie.spec (λ _ _ _ _ _ _. Unit {0}) (λ _ count _ _ _ i. count - i) (λ c. search rules)
-    (λ c κs. search rules) (λ c. search rules) (λ c. search rules) (λ c. search rules) (λ c. search rules))

@@ -1,9 +1,0 @@
--- The loop counts `b` up to 256.
-use Rattle.std.proofs.Common.{◌-◌, rules}
-use Rattle.orders.proofs.groups.extra_bytes.Statement.{statement}
-use Rattle.orders.proofs.groups.extra_bytes.Tie as tie
-
-pub extra_bytes_spec : {M : Type 1} → statement M
-extra_bytes_spec =
-    tie.close (tie.spec (λ _ _ _ _ _. Unit {0}) (λ _ _ _ _ b. 256 - b) (λ c. search rules) (λ c κs. search rules)
-    (λ c κs. search rules) (λ c. search rules) (λ c. search rules) (λ c. search rules) (λ c. search rules))

@@ -1,9 +1,0 @@
--- The loop counts `i` up to `end`.
-use Rattle.std.proofs.Common.{◌-◌, rules}
-use Rattle.orders_search.proofs.empty_rules.rules.Statement.{statement}
-use Rattle.orders_search.proofs.empty_rules.rules.Tie as tie
-
-pub rules_spec : {M : Type 1} → statement M
-rules_spec =
-    tie.close (tie.spec (λ _ _ _ _ _ _ _. Unit {0}) (λ _ _ end _ _ _ i. end - i) (λ c. search rules)
-    (λ c κs. search rules) (λ c. search rules) (λ c. search rules) (λ c. search rules) (λ c. search rules))

@@ -1,9 +1,0 @@
--- The loop counts `i` up to `rules`.
-use Rattle.std.proofs.Common.{◌-◌, rules}
-use Rattle.samples.proofs.reckon.has_empty_rule.Statement.{statement}
-use Rattle.samples.proofs.reckon.has_empty_rule.Tie as tie
-
-pub has_empty_rule_spec : {M : Type 1} → statement M
-has_empty_rule_spec =
-    tie.close (tie.spec (λ _ _ _ _. Unit {0}) (λ _ rules _ i. rules - i) (λ c. search rules) (λ c κs. search rules)
-    (λ c. search rules) (λ c. search rules) (λ c. search rules) (λ c. search rules) (λ c. search rules))
