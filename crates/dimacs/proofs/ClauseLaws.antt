@@ -22,9 +22,7 @@ use Rattle.dimacs.specs.Text.{is, is_gap, is_digit, is_first_digit, run, numeral
 use Rattle.dimacs.specs.Text.{number_up_to, signed, next_signed, literals_from, clause_from}
 use Rattle.dimacs.specs.Promises.{literal_answer, clause_answer, clashes, allowed}
 use Rattle.dimacs.specs.declared.numbers.LiteralRead.{LiteralRead}
-use Rattle.dimacs.specs.declared.numbers.LiteralRead.TheVariants as LiteralRead
 use Rattle.dimacs.specs.declared.clauses.ClauseRead.{ClauseRead}
-use Rattle.dimacs.specs.declared.clauses.ClauseRead.TheVariants as ClauseRead
 use Rattle.dimacs.proofs.ByteLaws.{stands_within, after_more, after_from, after_within}
 use Rattle.dimacs.proofs.ReadLaws.{literal_refused, literal_says, clause_refused, clause_says}
 use Rattle.dimacs.proofs.SignedLaws.{up_to_most}

@@ -12,7 +12,6 @@ use lib.ListN.{length}
 use Rattle.records.specs.Format.{Read, value, refused, and_then}
 use Rattle.book.specs.Promises.{place_answer}
 use Rattle.book.specs.declared.PlaceAfter.{PlaceAfter}
-use Rattle.book.specs.declared.PlaceAfter.TheVariants as PlaceAfter
 use Rattle.dimacs.specs.Text.{is, is_blank, is_line_end, stands, after, one_or_more, word, line, comments, word_and_blanks}
 use Rattle.dimacs.proofs.ByteLaws.{after_from}
 use Rattle.dimacs.proofs.ReadLaws.{place_refused, place_at}

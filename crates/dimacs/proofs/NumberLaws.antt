@@ -13,7 +13,6 @@ use Rattle.records.specs.Format.{value, refused}
 use Rattle.dimacs.specs.Text.{is, run, is_digit, is_first_digit, numeral, stands, after, number, number_up_to}
 use Rattle.dimacs.specs.Promises.{too_large, capped_answer}
 use Rattle.dimacs.specs.declared.numbers.NumberRead.{NumberRead}
-use Rattle.dimacs.specs.declared.numbers.NumberRead.TheVariants as NumberRead
 use Rattle.dimacs.proofs.ReadLaws.{capped_refused, capped_says}
 
 -- ---- digits

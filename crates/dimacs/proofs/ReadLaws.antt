@@ -10,18 +10,13 @@ use Rattle.records.specs.Format.{Read, value, refused}
 use Rattle.records.specs.Promises.{masks}
 use Rattle.book.specs.Promises.{place_answer}
 use Rattle.book.specs.declared.PlaceAfter.{PlaceAfter}
-use Rattle.book.specs.declared.PlaceAfter.TheVariants as PlaceAfter
 use Rattle.dimacs.specs.Text.{Formula, Counts}
 use Rattle.dimacs.specs.Promises.{too_large, capped_answer, number_answer, literal_answer, clause_answer, head_answer, clauses_answer, text_answer, counts_of}
 use Rattle.dimacs.specs.declared.numbers.NumberRead.{NumberRead}
-use Rattle.dimacs.specs.declared.numbers.NumberRead.TheVariants as NumberRead
 use Rattle.dimacs.specs.declared.numbers.LiteralRead.{LiteralRead}
-use Rattle.dimacs.specs.declared.numbers.LiteralRead.TheVariants as LiteralRead
 use Rattle.dimacs.specs.declared.clauses.ClauseRead.{ClauseRead}
-use Rattle.dimacs.specs.declared.clauses.ClauseRead.TheVariants as ClauseRead
 use Rattle.dimacs.specs.declared.clauses.ClausesRead.{ClausesRead}
 use Rattle.dimacs.specs.declared.head.HeadRead.{HeadRead}
-use Rattle.dimacs.specs.declared.head.HeadRead.TheVariants as HeadRead
 use Rattle.dimacs.specs.declared.TextRead.{TextRead}
 
 -- ---- a refusal

@@ -15,7 +15,6 @@ use Rattle.records.specs.Format.{Read, value, refused, and_then}
 use Rattle.dimacs.specs.Text.{is, is_first_digit, opposite, stands, number, number_up_to, signed}
 use Rattle.dimacs.specs.Promises.{number_answer, literal_answer, Small, signed_as}
 use Rattle.dimacs.specs.declared.numbers.NumberRead.{NumberRead}
-use Rattle.dimacs.specs.declared.numbers.NumberRead.TheVariants as NumberRead
 
 -- ---- the byte of a number with its sign
 

@@ -8,7 +8,6 @@ use lib.ListN.{length}
 use Rattle.literals.specs.Literal.{Literal}
 use Rattle.records.specs.Format.{value, refused}
 use Rattle.book.specs.declared.PlaceAfter.{PlaceAfter}
-use Rattle.book.specs.declared.PlaceAfter.TheVariants as PlaceAfter
 use Rattle.dimacs.specs.Text.{is_gap, after, clauses_from, text_ends, body_from}
 use Rattle.dimacs.specs.Promises.{clauses_answer, text_answer, counts_of}
 use Rattle.dimacs.specs.declared.clauses.ClausesRead.{ClausesRead}

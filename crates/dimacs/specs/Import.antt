@@ -6,7 +6,6 @@ use Rattle.records.specs.Format.{Read, value, refused, always, OrderBook, HD, CS
 use Rattle.log_form.specs.Format.{two_bytes, list_bytes}
 use Rattle.dimacs.specs.Text.{Formula, is_dropped, rule_of, formula_of}
 use Rattle.dimacs.specs.declared.Imported.{Imported}
-use Rattle.dimacs.specs.declared.Imported.TheVariants as Imported
 
 -- ---- what the book says
 

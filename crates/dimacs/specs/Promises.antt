@@ -9,19 +9,13 @@ use Rattle.records.specs.Format.{Read, value, refused, HD, EN}
 use Rattle.records.specs.Promises.{masks}
 use Rattle.book.specs.Answer.{padded}
 use Rattle.book.specs.declared.PlaceAfter.{PlaceAfter}
-use Rattle.book.specs.declared.PlaceAfter.TheVariants as PlaceAfter
 use Rattle.dimacs.specs.Text.{Formula, Counts, is_blank, is_line_end, is_gap, is_digit, is_first_digit, opposite}
 use Rattle.dimacs.specs.Import.{kept_of, choices_of, costs_bytes, rules_bytes}
 use Rattle.dimacs.specs.declared.bytes.Class.{Class}
-use Rattle.dimacs.specs.declared.bytes.Class.TheVariants as Class
 use Rattle.dimacs.specs.declared.numbers.NumberRead.{NumberRead}
-use Rattle.dimacs.specs.declared.numbers.NumberRead.TheVariants as NumberRead
 use Rattle.dimacs.specs.declared.numbers.LiteralRead.{LiteralRead}
-use Rattle.dimacs.specs.declared.numbers.LiteralRead.TheVariants as LiteralRead
 use Rattle.dimacs.specs.declared.head.HeadRead.{HeadRead}
-use Rattle.dimacs.specs.declared.head.HeadRead.TheVariants as HeadRead
 use Rattle.dimacs.specs.declared.clauses.ClauseRead.{ClauseRead}
-use Rattle.dimacs.specs.declared.clauses.ClauseRead.TheVariants as ClauseRead
 use Rattle.dimacs.specs.declared.clauses.ClausesRead.{ClausesRead}
 use Rattle.dimacs.specs.declared.TextRead.{TextRead}
 
