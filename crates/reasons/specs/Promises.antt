@@ -10,10 +10,8 @@ use Rattle.witnesses.specs.declared.Aim.{Aim}
 use Rattle.witnesses.specs.declared.Part.{Part}
 use Rattle.witnesses.specs.declared.State.{State}
 use Rattle.reasons.specs.declared.look.Look.{Look}
-use Rattle.reasons.specs.declared.look.Look.TheVariants as Look
 use Rattle.reasons.specs.declared.look.Looking.{Looking}
 use Rattle.reasons.specs.declared.split.Split.{Split}
-use Rattle.reasons.specs.declared.split.Split.TheVariants as Split
 
 -- ---- what the search carries along
 

@@ -34,6 +34,7 @@ pub struct Looking {
 const LOOKS_A_QUESTION: u32 = 16;
 
 // A look at a part: its bound, and the items that no candidate with a key below the least so far holds, taken off the limit.
+#[tactic(auto, using(crate::specs::Laws::Looks::look_laws))]
 fn look_at(
     weights: &[u64; Book::MAX_CHOICES],
     pool: &[u64],
@@ -81,6 +82,7 @@ fn pool_due(seen: Look, state: State) -> bool {
 
 // One more model for the pool, if there is one that makes the free items true: it says nothing of candidates, but its witness
 // raises the bound.
+#[tactic(auto, using(crate::specs::Laws::Looks::refill_laws))]
 fn refill(
     n: u32,
     yes: &[u64],

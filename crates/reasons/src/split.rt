@@ -25,6 +25,7 @@ fn improved(state: State, key: u64) -> State
 
 // Where to split a part within whose limit each candidate holds an item of `witness`: at its cheapest item. With no such
 // item there is no candidate.
+#[tactic(auto, using(crate::specs::Laws::Splits::split_at_laws))]
 fn split_at(weights: &[u64; Book::MAX_CHOICES], limit: u64, witness: u64, state: State) -> Split
     requires { Rows weights.now limit }
     ensures { SplitAt limit witness state result }
@@ -42,6 +43,7 @@ fn split_at(weights: &[u64; Book::MAX_CHOICES], limit: u64, witness: u64, state:
 
 // The same of a part after a look. Only where no witness is open is `chosen` put to the model search: it is a candidate, or
 // the model that is found is a witness, and one more for the pool.
+#[tactic(auto, using(crate::specs::Laws::Splits::split_laws))]
 pub fn split_part(
     n: u32,
     yes: &[u64],

@@ -14,7 +14,6 @@ use Rattle.witnesses.specs.declared.Part.{Part}
 use Rattle.witnesses.specs.declared.State.{State}
 use Rattle.witnesses.specs.declared.bound.Bounds.{Bounds}
 use Rattle.witnesses.specs.declared.bound.Witness.{Witness}
-use Rattle.witnesses.specs.declared.bound.Witness.TheVariants as Witness
 
 -- ---- the question for one goal
 

@@ -43,6 +43,7 @@ fn witness_of(aim: Aim, part: Part, model: u64) -> Witness
 }
 
 // The same bound with the smaller of its witness and another.
+#[tactic(auto, using(crate::specs::Laws::Bounds::noted_laws))]
 fn noted(b: Bounds, among: u64) -> Bounds
     ensures { Noted b among result }
 {
@@ -59,6 +60,7 @@ fn noted(b: Bounds, among: u64) -> Bounds
 }
 
 // Raises the bound by what each item of a witness can still give. One that holds an item used up gives nothing.
+#[tactic(auto, using(crate::specs::Laws::Bounds::charge_laws))]
 fn charge(left: &mut [u64], b: Bounds, among: u64) -> Bounds
     requires { Roomy left.old b among }
     ensures { Charged left.old b among left.new result }
@@ -78,6 +80,7 @@ fn charge(left: &mut [u64], b: Bounds, among: u64) -> Bounds
 // The residual bound: it starts at the key of `chosen`, and each open witness in the pool adds the least weight left among
 // its items, which is taken off each of them. A witness with no item within the limit shows that there is no candidate, and
 // any bound will do.
+#[tactic(auto, using(crate::specs::Laws::Bounds::charging_laws))]
 pub fn bound_part(
     pool: &[u64],
     used: usize,

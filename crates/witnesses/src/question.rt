@@ -31,6 +31,7 @@ pub fn denied(aim: Aim, filling: u64) -> u64
 
 // A model of the rules, of the reasons in a set and of the goal's opposite. Known values are preferred, so that it makes few
 // items false.
+#[tactic(auto, using(crate::specs::Laws::Questions::ask_laws))]
 pub fn ask(n: u32, yes: &[u64], no: &[u64], aim: Aim, set: u64) -> SearchResult
     requires { Aimed n yes.now no.now aim }
     ensures { Searched n yes.now no.now (aim_on aim set) (aim_off aim set) result }
@@ -45,6 +46,7 @@ fn turned(next: usize, room: usize) -> usize {
 }
 
 // Puts a model into the pool: into free room, and once there is none over the one that stands there longest.
+#[tactic(auto, using(items::specs::Witnesses::kept_laws))]
 pub fn store(pool: &mut [u64], state: State, model: u64) -> State
     requires { state.used ≤ length pool.old }
     ensures { Stored pool.old state model pool.new result }

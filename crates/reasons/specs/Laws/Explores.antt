@@ -18,7 +18,6 @@ use Rattle.reasons.specs.Promises.{Exploring, LookedFrom, Explored, SplitsOn, Sp
 use Rattle.reasons.specs.Laws.Splits.{limit_small}
 use Rattle.reasons.specs.declared.look.Looking.{Looking}
 use Rattle.reasons.specs.declared.split.Split.{Split}
-use Rattle.reasons.specs.declared.split.Split.TheVariants as Split
 
 -- ---- `explore`
 

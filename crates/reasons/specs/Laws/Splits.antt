@@ -1,5 +1,5 @@
 -- A look at a part with the pool, and where the part is split: a law for each step, from those of crate `items`. Assumes nothing.
-use Rattle.std.specs.Prelude.{◌≡◌, refl, List, ℕ, ◌-◌, ◌^◌, ◌≤◌, ◌<◌, length}
+use Rattle.std.specs.Prelude.{◌≡◌, refl, List, ℕ, ◌^◌, ◌≤◌, ◌<◌, length}
 use Rattle.std.proofs.Common.{sym, subst, ◌∙◌, arith}
 use Rattle.std.proofs.lemmas.Nat.{and_le_r}
 use Rattle.sets.specs.Sets.{union, inter, Within}
@@ -24,10 +24,8 @@ use Rattle.witnesses.specs.declared.State.{State}
 use Rattle.reasons.specs.Promises.{Improved, Counted, Refilled, Seen, Exploring, LookedAt, LookedFrom, SplitAt, SplitUp}
 use Rattle.reasons.specs.declared.look.OpenPart.{OpenPart}
 use Rattle.reasons.specs.declared.look.Look.{Look}
-use Rattle.reasons.specs.declared.look.Look.TheVariants as Look
 use Rattle.reasons.specs.declared.look.Looking.{Looking}
 use Rattle.reasons.specs.declared.split.Split.{Split}
-use Rattle.reasons.specs.declared.split.Split.TheVariants as Split
 
 -- ---- keys
 

@@ -18,7 +18,6 @@ use Rattle.witnesses.specs.declared.Aim.{Aim}
 use Rattle.witnesses.specs.declared.Part.{Part}
 use Rattle.witnesses.specs.declared.bound.Bounds.{Bounds}
 use Rattle.witnesses.specs.declared.bound.Witness.{Witness}
-use Rattle.witnesses.specs.declared.bound.Witness.TheVariants as Witness
 
 -- ---- `makes_true` and `witness_of`
 
