@@ -20,7 +20,6 @@ use Rattle.step.specs.Meaning.{Step, Answer, nothing_left, step, step_of, goals}
 use Rattle.step.specs.Promises.{Asked, mask_question, next_of}
 use Rattle.step.specs.Laws.TheStep.{asked_sound, goals_choices}
 use Rattle.step.specs.declared.Next.{Next}
-use Rattle.step.specs.declared.Next.TheVariants as Next
 use Rattle.log_form.specs.Format.{records_bytes, ok_bytes, log_bytes}
 use Rattle.log_writer.specs.Meaning.{with_new, run_from, run_of, record_of, costs_written, log_of}
 use Rattle.log_writer.specs.Promises.{put_step, step_bytes, steps_bytes, total_of, LogAsked, LogWritten}

@@ -15,7 +15,7 @@ use Rattle.sat.specs.Meaning.{obeys_rules}
 use Rattle.propagation.specs.Promises.{digit}
 use Rattle.problem.specs.Problem.{Problem, given}
 use Rattle.problem.specs.Proper.{ProperProblem}
-use Rattle.consequence.specs.Meaning.{yes_consequence, no_consequence, consequence_of, theory_of, contradicts, ModelOf}
+use Rattle.consequence.specs.Meaning.{yes_consequence, no_consequence, consequence_of, theory_of, ModelOf}
 use Rattle.consequence.specs.Demand2.{OverChoice, Always, Demand2, FilledIn}
 use Rattle.consequence.specs.Laws.Masks.{assigned_theory}
 use Rattle.consequence.specs.Laws.Problems.{yes_consequence_lem, no_consequence_lem, consequence_demand}
