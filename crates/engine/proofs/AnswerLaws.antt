@@ -28,13 +28,10 @@ use Rattle.consequence.specs.Laws.Masks.{to_theory, of_theory, none_to_theory}
 use Rattle.consequence.specs.Laws.Problems.{model_filling, filling_model, no_filling, consequence_demand}
 use Rattle.consequence.specs.Laws.Algorithm2.{narrowed_problem}
 use Rattle.consequence.specs.declared.Consequence.{Consequence}
-use Rattle.consequence.specs.declared.Consequence.TheVariants as Consequence
 use Rattle.engine.specs.Calls.{read_at, posed, with_model, first_model, model_answer, ModelCall, consequence_answer, FillsIn, FoundFor, ConsequenceCall}
 use Rattle.engine.specs.Promises.{FoundModel, FoundForced}
 use Rattle.engine.specs.declared.ModelAnswer.{ModelAnswer}
-use Rattle.engine.specs.declared.ModelAnswer.TheVariants as ModelAnswer
 use Rattle.engine.specs.declared.ConsequenceAnswer.{ConsequenceAnswer}
-use Rattle.engine.specs.declared.ConsequenceAnswer.TheVariants as ConsequenceAnswer
 use Rattle.engine.proofs.NineLaws.{nine_exactly}
 use Rattle.engine.proofs.FirstModel.{first_has, is_first_model}
 use Rattle.engine.proofs.ProblemLaws.{theory_same, forced_same, contradicts_has, Taken, taken_posed, same_problem}

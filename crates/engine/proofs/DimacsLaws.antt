@@ -20,7 +20,6 @@ use Rattle.consequence.specs.Meaning.{models}
 use Rattle.dimacs.specs.Text.{Formula, satisfies, formula_of}
 use Rattle.dimacs.specs.Import.{rules_of, book_of, imported_bytes, imported, import_answer, buffer_after, ImportedAs}
 use Rattle.dimacs.specs.declared.Imported.{Imported}
-use Rattle.dimacs.specs.declared.Imported.TheVariants as Imported
 use Rattle.dimacs.proofs.Good.{GoodFormula, formula_good}
 use Rattle.dimacs.proofs.RoundTrip.{book_read, book_short}
 use Rattle.dimacs.proofs.SameModels.{obeys_kept}

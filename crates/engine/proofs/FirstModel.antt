@@ -23,7 +23,6 @@ use Rattle.engine.specs.Calls.{with_model, first_model, model_answer}
 use Rattle.engine.specs.FirstModel.{AnswersFirst, EqualModels, SameObeyed}
 use Rattle.engine.specs.SameScreens.{Reordered, BothRead}
 use Rattle.engine.specs.declared.ModelAnswer.{ModelAnswer}
-use Rattle.engine.specs.declared.ModelAnswer.TheVariants as ModelAnswer
 use Rattle.engine.proofs.NineLaws.{after_nine}
 use Rattle.engine.proofs.PosedLaws.{posed_book, posed_impossible}
 

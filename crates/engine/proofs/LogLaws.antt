@@ -23,7 +23,6 @@ use Rattle.problem.specs.Problem.{Problem, problem_of, given}
 use Rattle.problem.specs.Proper.{ProperProblem}
 use Rattle.problem.specs.Masked.{masked_from}
 use Rattle.problem.specs.declared.MaskedProblem.{MaskedProblem}
-use Rattle.problem.proofs.BookLaws.{proper_book}
 use Rattle.consequence.specs.Meaning.{models, has_model, Theory, contradicts}
 use Rattle.consequence.specs.Laws.Problems.{no_filling}
 use Rattle.step.specs.Meaning.{asking, Step}
@@ -37,12 +36,10 @@ use Rattle.log_writer.specs.Meaning.{run_of, run_for, log_of}
 use Rattle.log_writer.specs.Promises.{LogWritten}
 use Rattle.log_writer.specs.Laws.Explains.{explained, reads_back}
 use Rattle.log_writer.specs.declared.Written.{Written}
-use Rattle.log_writer.specs.Laws.OneStep.{forced}
 use Rattle.engine.specs.Calls.{read_at, posed, with_model, NineExactly, LogOutcome, logged, refused_with, log_outcome, log_answer, buffer_after, LoggedAs}
 use Rattle.engine.specs.Calls.{Explains, LogCall, resumed, resumed_outcome, Resumes, ResumeCall}
 use Rattle.engine.specs.Promises.{theory_in, forced_in, Loggable, LogReady, log_in, PutLog}
 use Rattle.engine.specs.declared.LogAnswer.{LogAnswer}
-use Rattle.engine.specs.declared.LogAnswer.TheVariants as LogAnswer
 use Rattle.engine.proofs.NineLaws.{nine_exactly}
 use Rattle.engine.proofs.ProblemLaws.{theory_same, forced_same, contradicts_has, Taken, taken_posed, same_problem, same_costs}
 use Rattle.engine.proofs.PosedLaws.{posed_refused, posed_proper}

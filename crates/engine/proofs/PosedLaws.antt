@@ -27,9 +27,9 @@ unfolding posed read_at
 posed_impossible moment s e = rw e refl
 
 -- a book that was read at a moment
-pub read_at : (moment : Moment) (s : List ℕ) {b : OrderBook} {end : ℕ} → read_at moment s ≡ value b end → (is_moment moment ≡ true) × (read_book s ≡ value b end)
+pub read_at_lem : (moment : Moment) (s : List ℕ) {b : OrderBook} {end : ℕ} → read_at moment s ≡ value b end → (is_moment moment ≡ true) × (read_book s ≡ value b end)
 unfolding read_at
-read_at moment s {b} {end} e = go (is_moment moment) refl e
+read_at_lem moment s {b} {end} e = go (is_moment moment) refl e
   where
     go : (h : Bool) → is_moment moment ≡ h → cond h (read_book s) (refused 14 0) ≡ value b end → (is_moment moment ≡ true) × (read_book s ≡ value b end)
     go true d f = (d, f)
@@ -58,7 +58,7 @@ unfolding posed
 posed_by moment s {p} {end} e =
     let f = then_value (read_at moment s) (λ b end. value (problem_of moment b) end) e in
     let after : f.1 ≡ end = cc in
-    let r = read_at moment s f.2 in
+    let r = read_at_lem moment s f.2 in
     record { book = f.0; possible = r.0; read = rw after at r.1; same = cc }
 
 pub posed_proper : (moment : Moment) (s : List ℕ) {p : Problem} {end : ℕ} → posed moment s ≡ value p end → ProperProblem p

@@ -25,7 +25,7 @@ use Rattle.consequence.specs.Promises.{mask_theory}
 use Rattle.consequence.specs.Laws.Masks.{same_theory}
 use Rattle.consequence.specs.Laws.Problems.{has_contradicts, yes_consequence_lem, no_consequence_lem}
 use Rattle.engine.specs.Calls.{read_at, posed}
-use Rattle.engine.proofs.PosedLaws.{read_at, posed_book}
+use Rattle.engine.proofs.PosedLaws.{read_at_lem, posed_book}
 use Rattle.engine.specs.Promises.{theory_in, forced_in, Steppable, Loggable}
 
 module _ {b : OrderBook} (w : WellFormed b) (moment : Moment) where
@@ -92,7 +92,7 @@ pub record Taken (moment : Moment) (s : List ℕ) (r : Reading) : Type 0 where
 pub taken : {moment : Moment} {s : List ℕ} {r : Reading} → r ≡ book_answer (read_at moment s) → r.verdict ≡ Verdict.Accepted → Taken moment s r
 taken {moment} {s} e f =
     let b = book_says (read_at moment s) e f in
-    let r = read_at moment s b.said in
+    let r = read_at_lem moment s b.said in
     record { possible = r.0; read = record { book = b.book; end = b.end; said = r.1; keeps = b.keeps }; well = well_formed s r.1 }
 
 -- the problem can be made of it

@@ -7,22 +7,17 @@ use Prim.Native.Nat.{ℕ, ◌+◌, ◌-◌, ◌≤◌}
 use native.Mathlib.Omega.{arith}
 use lib.Dec.{ltb}
 use lib.ListN.{length, take, drop, length-append, length-drop}
-use lib.Seq.{take_at, take-take, take-append-le, length-take-le, drop-append-add, drop-drop}
-use borrow.Author.Tests.{le-ltb, ltb-false}
+use lib.Seq.{take-take, take-append-le, length-take-le, drop-append-add, drop-drop}
+use borrow.Author.Tests.{ltb-false}
 use Rattle.dates.specs.declared.Moment.{Moment}
 use Rattle.records.specs.Limits.{max_log}
-use Rattle.records.specs.Format.{Read, value, refused}
-use Rattle.problem.specs.Problem.{Problem}
-use Rattle.consequence.specs.Meaning.{has_model}
-use Rattle.log_form.specs.Format.{Log, log_bytes}
+use Rattle.log_form.specs.Format.{log_bytes}
 use Rattle.log_form.specs.Restarts.{written_up_to, is_begun, Begun}
-use Rattle.log_form.specs.Laws.Restarts.{begun_true, begun_is, begun_not}
-use Rattle.log_writer.specs.Meaning.{run_for, log_of}
-use Rattle.engine.specs.Calls.{posed, with_model, LogOutcome, logged, refused_with, log_outcome, log_answer, buffer_after, LoggedAs, LogCall}
+use Rattle.log_form.specs.Laws.Restarts.{begun_is, begun_not}
+use Rattle.engine.specs.Calls.{posed, LogOutcome, logged, refused_with, log_outcome, log_answer, buffer_after, LoggedAs, LogCall}
 use Rattle.engine.specs.Calls.{resumed, resumed_outcome, ResumeCall}
 use Rattle.engine.specs.Restarts.{CarriesOn}
 use Rattle.engine.specs.declared.LogAnswer.{LogAnswer}
-use Rattle.engine.specs.declared.LogAnswer.TheVariants as LogAnswer
 use Rattle.engine.proofs.LogLaws.{log_call, log_said}
 use Rattle.engine.proofs.ResumeLaws.{Wrote, wrote, long_enough, any_room, short_eight}
 

@@ -20,7 +20,6 @@ use Rattle.engine.specs.Calls.{posed, with_model, LogOutcome, logged, refused_wi
 use Rattle.engine.specs.Calls.{resumed, resumed_outcome, ResumeCall}
 use Rattle.engine.specs.Promises.{PutLog}
 use Rattle.engine.specs.declared.LogAnswer.{LogAnswer}
-use Rattle.engine.specs.declared.LogAnswer.TheVariants as LogAnswer
 use Rattle.engine.proofs.LogLaws.{put_as, logged_refused, resume_call}
 
 -- ---- what was written, from the answer

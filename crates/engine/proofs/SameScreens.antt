@@ -35,13 +35,9 @@ use Rattle.engine.specs.Calls.{step_says, step_for, step_answer, StepCall, LogOu
 use Rattle.engine.specs.Calls.{LogCall}
 use Rattle.engine.specs.SameScreens.{SameScreens, Reordered, Retyped, BothNine, EqualLogs, SameLogs, choices_in, SameChosen, SameModels, SameAnswers}
 use Rattle.engine.specs.declared.ModelAnswer.{ModelAnswer}
-use Rattle.engine.specs.declared.ModelAnswer.TheVariants as ModelAnswer
 use Rattle.engine.specs.declared.ConsequenceAnswer.{ConsequenceAnswer}
-use Rattle.engine.specs.declared.ConsequenceAnswer.TheVariants as ConsequenceAnswer
 use Rattle.engine.specs.declared.StepAnswer.{StepAnswer}
-use Rattle.engine.specs.declared.StepAnswer.TheVariants as StepAnswer
 use Rattle.engine.specs.declared.LogAnswer.{LogAnswer}
-use Rattle.engine.specs.declared.LogAnswer.TheVariants as LogAnswer
 use Rattle.engine.proofs.NineLaws.{none_has, after_nine}
 use Rattle.engine.proofs.FirstModel.{first_model_lem}
 use Rattle.engine.proofs.PosedLaws.{posed_book, posed_proper}

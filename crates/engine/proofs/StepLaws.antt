@@ -26,12 +26,11 @@ use Rattle.problem.specs.declared.MaskedProblem.{MaskedProblem}
 use Rattle.consequence.specs.Meaning.{models, has_model, consequence_of, Theory, theory_of, contradicts}
 use Rattle.consequence.specs.Laws.Masks.{to_theory, of_theory}
 use Rattle.consequence.specs.Laws.Problems.{no_filling}
-use Rattle.step.specs.Meaning.{asking, question_of, Answer, Step, nothing_left, step, step_of}
+use Rattle.step.specs.Meaning.{asking, question_of, Answer, nothing_left, step, step_of}
 use Rattle.step.specs.IsStep.{ForcedBy, Between, Sound, IsStep}
 use Rattle.step.specs.Theorems.{step_is, left_known}
 use Rattle.step.specs.Promises.{Asked, next_of}
 use Rattle.step.specs.declared.Next.{Next}
-use Rattle.step.specs.declared.Next.TheVariants as Next
 use Rattle.step.specs.Laws.Given as facts
 use Rattle.step.specs.Laws.Known.{cond_not}
 use Rattle.log_writer.specs.Promises.{put_step}
@@ -41,9 +40,7 @@ use Rattle.log_writer.proofs.RunLaws.{of_parts}
 use Rattle.engine.specs.Calls.{read_at, posed, with_model, between, step_says, step_for, step_answer, IsNext, StepCall}
 use Rattle.engine.specs.Promises.{theory_in, forced_in, FoundForced, step_in, Steppable, StepReady}
 use Rattle.engine.specs.declared.ConsequenceAnswer.{ConsequenceAnswer}
-use Rattle.engine.specs.declared.ConsequenceAnswer.TheVariants as ConsequenceAnswer
 use Rattle.engine.specs.declared.StepAnswer.{StepAnswer}
-use Rattle.engine.specs.declared.StepAnswer.TheVariants as StepAnswer
 use Rattle.engine.proofs.NineLaws.{nine_exactly}
 use Rattle.engine.proofs.ProblemLaws.{theory_same, forced_same, contradicts_has, Taken, taken_posed, same_problem, same_costs}
 use Rattle.engine.proofs.PosedLaws.{posed_refused, posed_proper}

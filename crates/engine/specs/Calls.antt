@@ -19,13 +19,9 @@ use Rattle.log_form.specs.Restarts.{is_begun, Begun}
 use Rattle.log_writer.specs.Meaning.{run_for, log_of}
 use Rattle.log_writer.specs.Demand3.{Explained}
 use Rattle.engine.specs.declared.ModelAnswer.{ModelAnswer}
-use Rattle.engine.specs.declared.ModelAnswer.TheVariants as ModelAnswer
 use Rattle.engine.specs.declared.ConsequenceAnswer.{ConsequenceAnswer}
-use Rattle.engine.specs.declared.ConsequenceAnswer.TheVariants as ConsequenceAnswer
 use Rattle.engine.specs.declared.StepAnswer.{StepAnswer}
-use Rattle.engine.specs.declared.StepAnswer.TheVariants as StepAnswer
 use Rattle.engine.specs.declared.LogAnswer.{LogAnswer}
-use Rattle.engine.specs.declared.LogAnswer.TheVariants as LogAnswer
 
 -- ---- every call but the readers
 

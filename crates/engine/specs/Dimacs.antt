@@ -9,7 +9,6 @@ use Rattle.consequence.specs.Meaning.{models}
 use Rattle.dimacs.specs.Text.{Formula, satisfies}
 use Rattle.dimacs.specs.Import.{imported, ImportedAs}
 use Rattle.dimacs.specs.declared.Imported.{Imported}
-use Rattle.dimacs.specs.declared.Imported.TheVariants as Imported
 
 -- Bytes that are read as a book over the variables of a formula: U the lesser of V and the most choices, every cost 1, no facts, and at every moment for every
 -- filling of the variables, it satisfies the formula exactly when it is a model of the book.

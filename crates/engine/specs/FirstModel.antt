@@ -9,7 +9,6 @@ use Rattle.consequence.specs.Demand2.{NoFilling}
 use Rattle.consequence.specs.Algorithm2.{ModelFilling}
 use Rattle.engine.specs.Calls.{ModelCall}
 use Rattle.engine.specs.declared.ModelAnswer.{ModelAnswer}
-use Rattle.engine.specs.declared.ModelAnswer.TheVariants as ModelAnswer
 
 -- What is answered is a model of the problem and comes before every other one. A problem is refused only where no filling is a model.
 -- `answer_first` shows it of `model_answer`.

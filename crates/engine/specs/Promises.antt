@@ -18,13 +18,9 @@ use Rattle.log_writer.specs.Meaning.{run_of, log_of}
 use Rattle.log_writer.specs.Promises.{LogAsked}
 use Rattle.engine.specs.Calls.{between, step_says, LogOutcome, logged, refused_with}
 use Rattle.engine.specs.declared.StepAnswer.{StepAnswer}
-use Rattle.engine.specs.declared.StepAnswer.TheVariants as StepAnswer
 use Rattle.engine.specs.declared.LogAnswer.{LogAnswer}
-use Rattle.engine.specs.declared.LogAnswer.TheVariants as LogAnswer
 use Rattle.engine.specs.declared.ModelAnswer.{ModelAnswer}
-use Rattle.engine.specs.declared.ModelAnswer.TheVariants as ModelAnswer
 use Rattle.engine.specs.declared.ConsequenceAnswer.{ConsequenceAnswer}
-use Rattle.engine.specs.declared.ConsequenceAnswer.TheVariants as ConsequenceAnswer
 
 -- ---- the arguments
 

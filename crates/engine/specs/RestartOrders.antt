@@ -1,5 +1,5 @@
 -- Book P's log carried on after a restart, computed from the meanings (document 02, E8).
-use Rattle.std.specs.Prelude.{◌≡◌, refl, List, [], ◌∷◌, ◌++◌, map, ℕ, ◌+◌, ◌-◌, length, take, drop, replicate}
+use Rattle.std.specs.Prelude.{◌≡◌, refl, List, [], ◌∷◌, ◌++◌, map, ℕ, ◌+◌, ◌-◌, take, replicate}
 use Rattle.sets.specs.Sets.{members_from, members_below, members}
 use Rattle.literals.specs.Literal.{byte_of, literals_of}
 use Rattle.records.specs.Limits.{max_log}

@@ -6,7 +6,6 @@ use Rattle.records.specs.Limits.{max_log}
 use Rattle.log_form.specs.Restarts.{written_up_to, Begun}
 use Rattle.engine.specs.Calls.{LogCall, ResumeCall}
 use Rattle.engine.specs.declared.LogAnswer.{LogAnswer}
-use Rattle.engine.specs.declared.LogAnswer.TheVariants as LogAnswer
 
 -- Of one book at one moment. `before` and `after` are the unbroken call's buffer, `found` and `left` that of the call that carries on from n bytes.
 -- Ruled out: a log that is another one by where the restart fell; a beginning that some other book wrote carried on.

@@ -13,11 +13,9 @@ use Rattle.consequence.specs.Meaning.{theory_of}
 use Rattle.consequence.specs.SameFillings.{SameFillings}
 use Rattle.engine.specs.Calls.{posed, NoModelIn, ModelCall, ConsequenceCall, StepCall, LogCall}
 use Rattle.engine.specs.declared.ModelAnswer.{ModelAnswer}
-use Rattle.engine.specs.declared.ModelAnswer.TheVariants as ModelAnswer
 use Rattle.engine.specs.declared.ConsequenceAnswer.{ConsequenceAnswer}
 use Rattle.engine.specs.declared.StepAnswer.{StepAnswer}
 use Rattle.engine.specs.declared.LogAnswer.{LogAnswer}
-use Rattle.engine.specs.declared.LogAnswer.TheVariants as LogAnswer
 
 -- ---- which books
 
