@@ -24,13 +24,11 @@ use Rattle.log_form.specs.Restarts.{is_begun}
 use Rattle.log_writer.specs.Meaning.{run_for, log_of}
 use Rattle.dimacs.specs.Import.{imported, import_answer, buffer_after}
 use Rattle.dimacs.specs.declared.Imported.{Imported}
-use Rattle.dimacs.specs.declared.Imported.TheVariants as Imported
 use Rattle.engine.specs.Calls.{posed, with_model, model_answer, first_model, consequence_answer, between, step_says, step_for, step_answer}
 use Rattle.engine.specs.Calls.{IsNext, LogOutcome, logged, refused_with, log_outcome, log_answer, resumed, resumed_outcome}
 use Rattle.engine.specs.declared.ModelAnswer.TheVariants as ModelAnswer
 use Rattle.engine.specs.declared.ConsequenceAnswer.TheVariants as ConsequenceAnswer
 use Rattle.engine.specs.declared.StepAnswer.{StepAnswer}
-use Rattle.engine.specs.declared.StepAnswer.TheVariants as StepAnswer
 use Rattle.engine.specs.Dimacs.{RefusalOf}
 use Rattle.engine.proofs.DimacsLaws.{dimacs_call}
 use Rattle.engine.proofs.PosedLaws.{posed_numbers, posed_places}

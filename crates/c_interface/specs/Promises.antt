@@ -3,7 +3,6 @@ use Rattle.std.specs.Prelude.{◌≡◌, ℕ}
 use Rattle.c_interface.specs.Seen.{Outcome, done, refusal, returned, behind}
 use Rattle.c_interface.specs.declared.StepShown.{StepShown}
 use Rattle.c_interface.specs.declared.StepOutcome.{StepOutcome}
-use Rattle.c_interface.specs.declared.StepOutcome.TheVariants as StepOutcome
 
 -- The outcome that the code's enum is.
 abbrev pub outcome_of : StepOutcome → Outcome StepShown

@@ -5,22 +5,15 @@ use Rattle.literals.specs.Literal.{Literal}
 use Rattle.literals.specs.declared.LiteralSet.{LiteralSet}
 use Rattle.dates.specs.declared.Moment.{Moment}
 use Rattle.dates.specs.declared.Applies.{Applies}
-use Rattle.dates.specs.declared.Applies.TheVariants as Applies
 use Rattle.records.specs.declared.Book.{Book}
 use Rattle.records.specs.declared.RuleWindow.{RuleWindow}
 use Rattle.book.specs.declared.Reading.{Reading}
 use Rattle.book.specs.declared.Verdict.{Verdict}
-use Rattle.book.specs.declared.Verdict.TheVariants as Verdict
 use Rattle.dimacs.specs.declared.Imported.{Imported}
-use Rattle.dimacs.specs.declared.Imported.TheVariants as Imported
 use Rattle.engine.specs.declared.ModelAnswer.{ModelAnswer}
-use Rattle.engine.specs.declared.ModelAnswer.TheVariants as ModelAnswer
 use Rattle.engine.specs.declared.ConsequenceAnswer.{ConsequenceAnswer}
-use Rattle.engine.specs.declared.ConsequenceAnswer.TheVariants as ConsequenceAnswer
 use Rattle.engine.specs.declared.StepAnswer.{StepAnswer}
-use Rattle.engine.specs.declared.StepAnswer.TheVariants as StepAnswer
 use Rattle.engine.specs.declared.LogAnswer.{LogAnswer}
-use Rattle.engine.specs.declared.LogAnswer.TheVariants as LogAnswer
 use Rattle.c_interface.specs.declared.StepShown.{StepShown}
 
 -- ---- a refusal as one number

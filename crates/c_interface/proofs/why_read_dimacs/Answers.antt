@@ -1,0 +1,14 @@
+-- `c_interface::why_read_dimacs` meets its contract. Assumes nothing.
+use Rattle.std.proofs.Common.{refl}
+use Rattle.c_interface.proofs.SeenLaws.{seen_done, seen_refused}
+use Rattle.c_interface.proofs.why_read_dimacs.Goals as goal
+
+pub returns-in-Refused : goal.returns-in-Refused
+returns-in-Refused c =
+    let m = c.read_dimacs.ensures in
+    seen_refused m m.said.answered c.in-Refused.is refl c.refusal.ensures
+
+pub returns-in-Written : goal.returns-in-Written
+returns-in-Written c =
+    let m = c.read_dimacs.ensures in
+    seen_done m m.said.answered c.in-Written.is refl
