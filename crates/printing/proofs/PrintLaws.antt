@@ -13,13 +13,11 @@ use Rattle.records.specs.Limits.{max_log}
 use Rattle.log_form.specs.Format.{Log, log_bytes, read_log, is_log}
 use Rattle.engine.specs.Calls.{LogOutcome, logged, refused_with, log_answer, buffer_after, LoggedAs, LogCall}
 use Rattle.engine.specs.declared.LogAnswer.{LogAnswer}
-use Rattle.engine.specs.declared.LogAnswer.TheVariants as LogAnswer
 use Rattle.engine.proofs.LogLaws.{outcome_reads}
 use Rattle.printing.specs.Text.{refusal_text}
 use Rattle.printing.specs.Printed.{max_text, outcome_text, moment_size, moment_at, book_outcome, input_outcome, text_of, print_answer, printed_buffer, PrintCall}
 use Rattle.printing.specs.Promises.{Front, Printable, LogPut}
 use Rattle.printing.specs.declared.Printed.{Printed}
-use Rattle.printing.specs.declared.Printed.TheVariants as Printed
 
 pub print_short : {s before : List ℕ} → length before < max_text → PrintCall s before before Printed.Short
 unfolding print_answer printed_buffer

@@ -12,7 +12,6 @@ use Rattle.engine.proofs.SameScreens.{outcomes_same}
 use Rattle.printing.specs.Printed.{max_text, outcome_text, moment_size, moment_at, book_outcome, input_outcome, text_of, print_answer, printed_buffer, PrintCall}
 use Rattle.printing.specs.SameScreens.{RetypedInputs, EqualTexts, SameText}
 use Rattle.printing.specs.declared.Printed.{Printed}
-use Rattle.printing.specs.declared.Printed.TheVariants as Printed
 
 -- a call whose buffer is long enough puts its text
 puts : {s before after : List ℕ} {r : Printed} → PrintCall s before after r → max_text ≤ length before

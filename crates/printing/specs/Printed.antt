@@ -7,7 +7,6 @@ use Rattle.records.specs.Format.{pair, date_at}
 use Rattle.engine.specs.Calls.{posed, LogOutcome, logged, refused_with, log_outcome}
 use Rattle.printing.specs.Text.{log_text, refusal_text}
 use Rattle.printing.specs.declared.Printed.{Printed}
-use Rattle.printing.specs.declared.Printed.TheVariants as Printed
 
 -- The bytes of a text, at most: six for each byte of a log (`text_length`, proofs/LogLaws).
 abbrev pub max_text : ℕ

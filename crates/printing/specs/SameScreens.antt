@@ -4,7 +4,6 @@ use Rattle.std.specs.Prelude.{◌≡◌, List, ◌++◌, ℕ, ◌≤◌, length,
 use Rattle.engine.specs.SameScreens.{Retyped}
 use Rattle.printing.specs.Printed.{max_text, moment_size, moment_at, PrintCall}
 use Rattle.printing.specs.declared.Printed.{Printed}
-use Rattle.printing.specs.declared.Printed.TheVariants as Printed
 
 -- Two inputs with the same six bytes of a moment, and after them two books with the same screens at it; `Retyped` says that the moment can be.
 pub record RetypedInputs (s t : List ℕ) : Type 0 where
