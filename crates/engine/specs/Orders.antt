@@ -21,8 +21,8 @@ use Rattle.consequence.specs.Meaning.{models, has_model, follows, collect, yes_c
 use Rattle.consequence.specs.Meaning.{forces_no, yes_forced, no_forced}
 use Rattle.items.specs.Weights.{sum_below}
 use Rattle.step.specs.Meaning.{Question, question_of, set_cost, yes_goals, no_goals, goals, goal_literal, reasons_on, reasons_off, against_on, against_off, refutes}
-use Rattle.step.specs.Meaning.{is_candidate, candidate_cost, before, earlier, first_of, candidate, candidates_for, candidates_below, candidates, all_known_lem}
-use Rattle.step.specs.Meaning.{the_step, Answer, new_on, new_off, step_from_lem, answer_with, step_of}
+use Rattle.step.specs.Meaning.{is_candidate, candidate_cost, before, earlier, first_of, candidate, candidates_for, candidates_below, candidates, all_known}
+use Rattle.step.specs.Meaning.{the_step, Answer, new_on, new_off, step_from, answer_with, step_of}
 use Rattle.step.specs.LowerGoalFirst.{lower_goal_first, lower_goal_candidate, lower_goal_step}
 use Rattle.log_form.specs.Format.{list_bytes, two_bytes, four_bytes, record_bytes, records_bytes, ok_bytes, log_bytes}
 use Rattle.log_writer.specs.Meaning.{costs_written, with_new, run_from, run_of, run_for}
@@ -42,7 +42,7 @@ set y n = record { yes = y; no = n }
 
 -- The definitions that the meaning of a step computes with, and those of a book and its models, named once each.
 unfoldable pub computed : Question → Answer
-unfolding step_of answer_with step_from_lem new_on new_off the_step all_known_lem count_trailing_zeros candidates candidates_below candidates_for candidate first_of earlier before
+unfolding step_of answer_with step_from new_on new_off the_step all_known count_trailing_zeros candidates candidates_below candidates_for candidate first_of earlier before
     candidate_cost is_candidate refutes against_on against_off reasons_on reasons_off goal_literal goals no_goals yes_goals set_cost sum_below cost_of yes_forced
     no_forced forces_yes forces_no contradicts obeying ones
 computed q = step_of q

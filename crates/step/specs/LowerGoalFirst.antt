@@ -1,7 +1,7 @@
 -- The order of the candidates before E6, and what E6 changes (document 02). Only that claim and its worked rows (engine/specs/Orders) use that order.
 use Rattle.std.specs.Prelude.{◌≡◌, Bool, ℕ, ◌+◌, ◌≤◌, ◌<◌, ltb}
 use Rattle.sets.specs.Sets.{count}
-use Rattle.step.specs.Meaning.{Question, Candidate, before, first_of, candidates, all_known_lem, Step, Answer, nothing_left, step, answer_with, step_of}
+use Rattle.step.specs.Meaning.{Question, Candidate, before, first_of, candidates, all_known, Step, Answer, nothing_left, step, answer_with, step_of}
 use Rattle.step.specs.IsStep.{Candidature, placed}
 
 -- The least cost; on equal cost the goal with the lower variable, however many facts there are, then the smaller sum.
@@ -10,7 +10,7 @@ lower_goal_first a b = before a.cost b.cost (before a.goal b.goal (ltb a.reasons
 
 -- The first of the candidates in that order.
 unfoldable pub lower_goal_candidate : Question → Candidate
-lower_goal_candidate q = first_of lower_goal_first (all_known_lem q) (candidates q)
+lower_goal_candidate q = first_of lower_goal_first (all_known q) (candidates q)
 
 -- The answer from K with it.
 unfoldable pub lower_goal_step : Question → Answer

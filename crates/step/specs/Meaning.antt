@@ -134,12 +134,12 @@ module _ (q : Question) where
   candidates = candidates_below q.theory.variables
 
   -- All of K with the goal of the lowest variable: one of them, since K with the opposite of a goal contradicts the rules (`known_contradicts`, Theorems).
-  unfoldable pub all_known_lem : Candidate
-  all_known_lem = candidate (count_trailing_zeros q.theory.variables (goals q)) (union q.known_on q.known_off)
+  unfoldable pub all_known : Candidate
+  all_known = candidate (count_trailing_zeros q.theory.variables (goals q)) (union q.known_on q.known_off)
 
   -- The first of them.
   unfoldable pub the_step : Candidate
-  the_step = first_of earlier all_known_lem candidates
+  the_step = first_of earlier all_known candidates
 
 -- A step as it is answered: the goal, the reasons, the new literals and the cost.
 pub record Step : Type 0 where
@@ -162,8 +162,8 @@ module _ (q : Question) where
   unfoldable pub new_off : ℕ → ℕ
   new_off s = diff (no_forced q.theory (reasons_on q s) (reasons_off q s)) q.known_off
 
-  unfoldable pub step_from_lem : Candidate → Step
-  step_from_lem c =
+  unfoldable pub step_from : Candidate → Step
+  step_from c =
       record {
         goal = goal_literal q c.goal;
         reasons_on_lem = reasons_on q c.reasons;
@@ -175,7 +175,7 @@ module _ (q : Question) where
 
   -- "Nothing left" where there is no goal, and in no other case; otherwise the step of a candidate.
   unfoldable pub answer_with : Candidate → Answer
-  answer_with c = elim (eqb (goals q) 0) [ true ↦ nothing_left | false ↦ step (step_from_lem c) ]
+  answer_with c = elim (eqb (goals q) 0) [ true ↦ nothing_left | false ↦ step (step_from c) ]
 
   -- The answer from K.
   unfoldable pub step_of : Answer

@@ -14,7 +14,7 @@ use Rattle.problem.specs.Limits.{most_rules}
 use Rattle.consequence.specs.Meaning.{yes_forced, no_forced, NoModelOf}
 use Rattle.consequence.specs.Promises.{mask_theory, Propagated}
 use Rattle.problem.specs.Problem.{cost_of, literal_cost}
-use Rattle.step.specs.Meaning.{Question, asking, goals, against_on, against_off, candidate_cost, Answer, nothing_left, Step, step, step_from_lem}
+use Rattle.step.specs.Meaning.{Question, asking, goals, against_on, against_off, candidate_cost, Answer, nothing_left, Step, step, step_from}
 use Rattle.witnesses.specs.declared.Aim.{Aim}
 use Rattle.witnesses.specs.declared.Part.{Part}
 use Rattle.witnesses.specs.declared.State.{State}
@@ -200,7 +200,7 @@ pub record Chosen (n : ℕ) (ys ns : List ℕ) (ch : ℕ) (k : LiteralSet) (best
 -- The step that a key stands for. The costs do not matter to it.
 abbrev pub step_at : ℕ → List ℕ → List ℕ → ℕ → LiteralSet → LiteralSet → ℕ → Step
 step_at n ys ns ch c k best =
-    step_from_lem (mask_question n ys ns ch [] c k)
+    step_from (mask_question n ys ns ch [] c k)
     (record { cost = best / cost_unit; goal = best / goal_unit % goal_room; reasons = best % set_room })
 
 -- The answer for each case.

@@ -98,10 +98,10 @@ module _ (t : Theory) (on off : ℕ) {number : ℕ} {answer : LiteralSet} (w : N
   literal true v = pos (suc v)
   literal false v = negsuc v
 
-  abbrev in_all_lem : Bool → ℕ → Bool
-  in_all_lem value v = has t.choices v && in_every w.narrowing.found (literal value v)
+  abbrev in_all : Bool → ℕ → Bool
+  in_all value v = has t.choices v && in_every w.narrowing.found (literal value v)
 
-  side_common : (value : Bool) → side value ≡ collect t.variables (in_all_lem value)
+  side_common : (value : Bool) → side value ≡ collect t.variables (in_all value)
   unfolding common_yes common_no
   side_common true = ap (λ (s : LiteralSet). s.yes) w.narrowing.common
   side_common false = ap (λ (s : LiteralSet). s.no) w.narrowing.common
@@ -122,17 +122,17 @@ module _ (t : Theory) (on off : ℕ) {number : ℕ} {answer : LiteralSet} (w : N
 
   chosen : (value : Bool) (v : ℕ) → bit (side value) v ≡ 1 → bit t.choices v ≡ 1
   chosen value v b =
-      let i = collect_true t.variables (in_all_lem value) v (sym (ap (λ (x : ℕ). bit x v) (side_common value)) ∙ b) in
+      let i = collect_true t.variables (in_all value) v (sym (ap (λ (x : ℕ). bit x v) (side_common value)) ∙ b) in
       has_true t.choices v (and_both _ _ i.1).0
 
   exact : (value : Bool) → Exactly t on off (digit value) (side value)
   exact value =
       record {
-        below = rw (side_common value) (collect_lt t.variables (in_all_lem value));
+        below = rw (side_common value) (collect_lt t.variables (in_all value));
         sound = λ v b. (chosen value v b, λ f m. each value v b f m);
         complete = λ v h o a.
             ap (λ (x : ℕ). bit x v) (side_common value)
-            ∙ collect_in t.variables (in_all_lem value) v h
+            ∙ collect_in t.variables (in_all value) v h
             (rw (
               one_has t.choices v o,
               found_models t.variables t.choices (ModelOf t on off) (literal value v) (λ f m. literal_holds value f v (a f m))

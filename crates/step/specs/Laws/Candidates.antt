@@ -13,7 +13,7 @@ use Rattle.sets.specs.Laws.Bits.{member_lt}
 use Rattle.sets.specs.Laws.Subset.{has_true, one_has, subset_within, within_subset, within_le}
 use Rattle.consequence.specs.Laws.Forcing.{contradicts_none, none_contradicts}
 use Rattle.step.specs.Meaning.{Question, goals, against_on, against_off, refutes, is_candidate, Candidate, first_of, candidate, candidates_for}
-use Rattle.step.specs.Meaning.{candidates_below, candidates, all_known_lem}
+use Rattle.step.specs.Meaning.{candidates_below, candidates, all_known}
 use Rattle.step.specs.Promises.{Picks}
 use Rattle.step.specs.Laws.Order.{TotalPreorder, FirstIn, first_in}
 
@@ -141,16 +141,16 @@ module _ (q : Question) where
 
   -- the first of all is, where all of K with the goal of the lowest variable is one
   pub first_stepped : {order : Candidate → Candidate → Bool} {Le : Candidate → Candidate → Type 0} → TotalPreorder order Le → Sized
-      → Picks q (all_known_lem q).goal (all_known_lem q).reasons → Stepped Le (first_of order (all_known_lem q) (candidates q))
-  unfolding all_known_lem candidate
+      → Picks q (all_known q).goal (all_known q).reasons → Stepped Le (first_of order (all_known q) (candidates q))
+  unfolding all_known candidate
   first_stepped {order} {Le} o z x =
       record { listed = from (Memᴰ.cases_cons it.member); first = λ v s y. it.first (candidate q v s) (Memᴰ.tail (there v s y)) }
     where
-      it : FirstIn Le (all_known_lem q ∷ candidates q) (first_of order (all_known_lem q) (candidates q))
-      it = first_in o (all_known_lem q) (candidates q)
+      it : FirstIn Le (all_known q ∷ candidates q) (first_of order (all_known q) (candidates q))
+      it = first_in o (all_known q) (candidates q)
 
-      from : {c : Candidate} → (c ≡ all_known_lem q) ⊎ Memᴰ c (candidates q) → Listed c
-      from {c} (inl e) = listed (all_known_lem q).goal (all_known_lem q).reasons c x e
+      from : {c : Candidate} → (c ≡ all_known q) ⊎ Memᴰ c (candidates q) → Listed c
+      from {c} (inl e) = listed (all_known q).goal (all_known q).reasons c x e
       from {c} (inr m) = candidates_sound c m
 
       there : (v s : ℕ) → Picks q v s → Memᴰ (candidate q v s) (candidates q)

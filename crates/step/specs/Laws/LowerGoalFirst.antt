@@ -8,7 +8,7 @@ use Rattle.sets.specs.Sets.{union, count, Within}
 use Rattle.sets.specs.Laws.Count.{ones_union}
 use Rattle.sets.specs.Laws.Subset.{apart_within, inter_in}
 use Rattle.step.specs.Meaning.{Question, goals, reasons_on, reasons_off, Candidate, the_step, Answer}
-use Rattle.step.specs.Meaning.{nothing_left, step, step_from_lem, step_of}
+use Rattle.step.specs.Meaning.{nothing_left, step, step_from, step_of}
 use Rattle.step.specs.IsStep.{Sound, Lex, Upto, placed, IsStep}
 use Rattle.step.specs.LowerGoalFirst.{lower_goal_first, lower_goal_candidate, lower_goal_step, FewerFacts, FewerThan, SameCost, ChangesExactly}
 use Rattle.step.specs.Laws.Order.{TotalPreorder, by_number, by_number_then, lex_both, lex_le}
@@ -68,11 +68,11 @@ module _ (q : Question) (z : Sound q) where
     costs : (the_step q).cost ≡ (lower_goal_candidate q).cost
     costs = (lex_both step_upto lower_upto).0
 
-    it : IsStep q (step_from_lem q (the_step q))
+    it : IsStep q (step_from q (the_step q))
     it = from_stepped q z (the_step q) step_first
 
-    fewer : count (the_step q).reasons < count (lower_goal_candidate q).reasons → FewerFacts q (step_from_lem q (lower_goal_candidate q))
-    unfolding step_from_lem
+    fewer : count (the_step q).reasons < count (lower_goal_candidate q).reasons → FewerFacts q (step_from q (lower_goal_candidate q))
+    unfolding step_from
     fewer h =
         record {
           on = reasons_on q (the_step q).reasons;
@@ -84,19 +84,19 @@ module _ (q : Question) (z : Sound q) where
           fewer = omega (arith, h, facts_of (the_step q) step_first, facts_of (lower_goal_candidate q) lower_first);
         }
 
-    differs : (step_from_lem q (the_step q) ≡ step_from_lem q (lower_goal_candidate q) → ⊥) → FewerFacts q (step_from_lem q (lower_goal_candidate q))
+    differs : (step_from q (the_step q) ≡ step_from q (lower_goal_candidate q) → ⊥) → FewerFacts q (step_from q (lower_goal_candidate q))
     differs n = go (same_or_fewer step_upto lower_upto)
       where
-        go : (the_step q ≡ lower_goal_candidate q) ⊎ (count (the_step q).reasons < count (lower_goal_candidate q).reasons) → FewerFacts q (step_from_lem q (lower_goal_candidate q))
-        go (inl e) = absurd (n (ap (step_from_lem q) e))
+        go : (the_step q ≡ lower_goal_candidate q) ⊎ (count (the_step q).reasons < count (lower_goal_candidate q).reasons) → FewerFacts q (step_from q (lower_goal_candidate q))
+        go (inl e) = absurd (n (ap (step_from q) e))
         go (inr h) = fewer h
 
     -- no candidate of least cost has fewer facts than the step
-    no_fewer : FewerFacts q (step_from_lem q (the_step q)) → ⊥
+    no_fewer : FewerFacts q (step_from q (the_step q)) → ⊥
     no_fewer f = go (it.first f.on f.off f.variable f.says f.is_candidate_lem)
       where
         mine : Candidate
-        mine = placed q (step_from_lem q (the_step q)).reasons_on_lem (step_from_lem q (the_step q)).reasons_off_lem it.variable it.says
+        mine = placed q (step_from q (the_step q)).reasons_on_lem (step_from q (the_step q)).reasons_off_lem it.variable it.says
 
         go : Upto mine (placed q f.on f.off f.variable f.says) → ⊥
         go (inl h) = omega (arith, h, f.least_cost _ _ _ _ it.is_candidate_lem)
@@ -112,7 +112,7 @@ module _ (q : Question) (z : Sound q) where
   -- ---- the answers
 
   module _ (A : Answer → Answer → Type 0) (none : A nothing_left nothing_left)
-      (some : (goals q ≡ 0 → ⊥) → A (step (step_from_lem q (the_step q))) (step (step_from_lem q (lower_goal_candidate q)))) where
+      (some : (goals q ≡ 0 → ⊥) → A (step (step_from q (the_step q))) (step (step_from q (lower_goal_candidate q)))) where
     -- what holds of both answers where nothing is left, and of both steps
     both_answers : A (step_of q) (lower_goal_step q)
     unfolding lower_goal_step
@@ -122,7 +122,7 @@ module _ (q : Question) (z : Sound q) where
         (λ e. subst₂ A (sym (step_open q e)) (sym (answer_open q (lower_goal_candidate q) e)) (some e))
 
   pub changes_exactly : ChangesExactly q
-  unfolding step_from_lem
+  unfolding step_from
   changes_exactly =
       record {
         differs_fewer = both_answers (λ (a b : Answer). (a ≡ b → ⊥) → FewerThan q b) (λ n. n refl) (λ left n. differs left (λ e. n (ap step e)));

@@ -15,7 +15,7 @@ use Rattle.consequence.specs.Laws.Masks.{to_theory, of_theory}
 use Rattle.consequence.specs.declared.Consequence.{Consequence}
 use Rattle.consequence.specs.declared.Consequence.TheVariants.{NoModel as Contradiction, Forced}
 use Rattle.step.specs.Meaning.{Question, yes_goals, no_goals, goals, goal_literal, reasons_on, reasons_off, candidate_cost, Candidate, candidate}
-use Rattle.step.specs.Meaning.{the_step, step, new_on, new_off, step_from_lem, step_of}
+use Rattle.step.specs.Meaning.{the_step, step, new_on, new_off, step_from, step_of}
 use Rattle.step.specs.IsStep.{Upto}
 use Rattle.step.specs.Promises.{goal_unit, cost_unit, set_room, goal_room, key_of, Small, mask_question, open_goals, Ready, ReadyWithGoal, Picks, GoalAndSet}
 use Rattle.step.specs.Promises.{key_of_pair, LeastFound, Reasoned, Learnt, Asked, Chosen, step_at, next_of}
@@ -163,7 +163,7 @@ module _ {n : ℕ} {ys ns : List ℕ} {ch : ℕ} {table : List (List ℕ)} {c k 
         }
 
     pub answer_step : {r : Next} → r ≡ next_of (step (step_at n ys ns ch c k best)) → r ≡ next_of (step_of (mask_question n ys ns ch table c k))
-    unfolding step_from_lem candidate goal_literal reasons_on reasons_off new_on new_off yes_goals
+    unfolding step_from candidate goal_literal reasons_on reasons_off new_on new_off yes_goals
     answer_step p = p ∙ sym (ap next_of theirs)
       where
         q : Question
@@ -175,7 +175,7 @@ module _ {n : ℕ} {ys ns : List ℕ} {ch : ℕ} {table : List (List ℕ)} {c k 
 
         theirs : step_of q ≡ step (step_at n ys ns ch c k best)
         theirs =
-            step_open q (λ z. omega (arith, z, some_goal)) ∙ ap (λ (d : Candidate). step (step_from_lem q d)) (picked.taken ∙ same)
+            step_open q (λ z. omega (arith, z, some_goal)) ∙ ap (λ (d : Candidate). step (step_from q d)) (picked.taken ∙ same)
 
 -- ---- `step_of`
 
@@ -188,7 +188,7 @@ module _ {n : ℕ} {ys ns : List ℕ} {ch best : ℕ} {k : LiteralSet} (x : Chos
       → says ≡ has d (best / goal_unit % goal_room) → l ≡ literal_of (best / goal_unit % goal_room) says → a ≡ inter (best % set_room) k.yes
       → b ≡ inter (best % set_room) k.no → Learnt n ys ns ch (record { yes = a; no = b }) k new
       → Next.Step l (record { yes = a; no = b }) new (best / cost_unit) ≡ next_of (step (step_at n ys ns ch c k best))
-  unfolding step_from_lem goal_literal reasons_on reasons_off new_on new_off yes_goals
+  unfolding step_from goal_literal reasons_on reasons_off new_on new_off yes_goals
   chosen_step c {d} {a} {b} {says} {l} {new} p q e s t w =
       λ i. Next.Step (goal_is i) (record { yes = s i; no = t i }) (record { yes = yes_is i; no = no_is i }) (best / cost_unit)
     where

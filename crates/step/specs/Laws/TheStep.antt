@@ -20,7 +20,7 @@ use Rattle.consequence.specs.Laws.Forcing.{Exactly, yes_exactly, no_exactly}
 use Rattle.consequence.specs.Laws.Masks.{theory_assigned, to_theory, of_theory}
 use Rattle.witnesses.specs.Laws.Questions.{opposite}
 use Rattle.step.specs.Meaning.{Question, set_cost, yes_goals, goals, goal_literal, reasons_on, reasons_off, candidate_cost, Candidate, candidate}
-use Rattle.step.specs.Meaning.{first_of, candidates, all_known_lem, the_step, Step, nothing_left, step, new_on, new_off, step_from_lem, answer_with, step_of}
+use Rattle.step.specs.Meaning.{first_of, candidates, all_known, the_step, Step, nothing_left, step, new_on, new_off, step_from, answer_with, step_of}
 use Rattle.step.specs.Meaning.{no_goals}
 use Rattle.step.specs.Promises.{Picks, Asked, mask_question}
 use Rattle.step.specs.Laws.Order.{TotalPreorder, upto_order, lex_le}
@@ -36,12 +36,12 @@ module _ (q : Question) where
   unfolding answer_with
   answer_left c e = rw (eq-eqb (goals q) 0 e, answer_with) refl
 
-  pub answer_open : (c : Candidate) → (goals q ≡ 0 → ⊥) → answer_with q c ≡ step (step_from_lem q c)
+  pub answer_open : (c : Candidate) → (goals q ≡ 0 → ⊥) → answer_with q c ≡ step (step_from q c)
   unfolding answer_with
   answer_open c e = rw (ne_eqb (goals q) 0 e, answer_with) refl
 
   -- the step of a candidate is answered where a goal is left
-  pub answer_is : (c : Candidate) (s : Step) → answer_with q c ≡ step s → (goals q ≡ 0 → ⊥) × (step_from_lem q c ≡ s)
+  pub answer_is : (c : Candidate) (s : Step) → answer_with q c ≡ step s → (goals q ≡ 0 → ⊥) × (step_from q c ≡ s)
   answer_is c s e = (left, let o = answer_open c left in cc)
     where
       left : goals q ≡ 0 → ⊥
@@ -56,7 +56,7 @@ module _ (q : Question) where
   unfolding step_of
   step_left e = answer_left (the_step q) e
 
-  pub step_open : (goals q ≡ 0 → ⊥) → step_of q ≡ step (step_from_lem q (the_step q))
+  pub step_open : (goals q ≡ 0 → ⊥) → step_of q ≡ step (step_from q (the_step q))
   unfolding step_of
   step_open e = answer_open (the_step q) e
 
@@ -133,8 +133,8 @@ module _ (q : Question) (z : Sound q) where
         complete = λ v h c o a. omega (arith, bit_diff m known v, x.complete v h c a);
       }
 
-  pub from_stepped : (c : Candidate) → Stepped q Upto c → IsStep q (step_from_lem q c)
-  unfolding step_from_lem goal_literal new_on new_off reasons_on reasons_off candidate candidate_cost
+  pub from_stepped : (c : Candidate) → Stepped q Upto c → IsStep q (step_from q c)
+  unfolding step_from goal_literal new_on new_off reasons_on reasons_off candidate candidate_cost
   from_stepped c t =
       record {
         variable = v;
@@ -204,7 +204,7 @@ module _ (q : Question) (z : Sound q) where
       out : (bit q.theory.choices v ≡ 1) × (bit q.known_on v ≡ 0) × (bit q.known_off v ≡ 0)
       out = goal_unknown v p.goal
 
-      gains : (y : Bool) → b ≡ y → Gained (step_from_lem q c) v y
+      gains : (y : Bool) → b ≡ y → Gained (step_from q c) v y
       gains true e = yes_new.complete v below out.0 out.1 (λ f m. forced_by on off v b it.contradicts f m ∙ ap digit e)
       gains false e = no_new.complete v below out.0 out.2 (λ f m. forced_by on off v b it.contradicts f m ∙ ap digit e)
 
@@ -212,8 +212,8 @@ module _ (q : Question) (z : Sound q) where
 
   -- the candidate that is taken in an order, where a goal is left
   pub first_taken : {order : Candidate → Candidate → Bool} {Le : Candidate → Candidate → Type 0} → TotalPreorder order Le → (goals q ≡ 0 → ⊥)
-      → Stepped q Le (first_of order (all_known_lem q) (candidates q))
-  unfolding all_known_lem candidate
+      → Stepped q Le (first_of order (all_known q) (candidates q))
+  unfolding all_known candidate
   first_taken o ne =
       let h : 0 < goals q = omega arith in
       first_stepped q o sound_sized
@@ -247,8 +247,8 @@ module _ (q : Question) (z : Sound q) where
   pub some_step : (v : ℕ) (says : Bool) → Goal q v says → (s : Step) × (step_of q ≡ step s) × IsStep q s
   some_step v says g =
       let h : 0 < goals q = pos_of_member (goals q) v (goal_is q sound_forcing v says g).0 in
-      let e : step_of q ≡ step (step_from_lem q (the_step q)) = step_open q (λ d. omega arith) in
-      (step_from_lem q (the_step q), e, step_is _ e)
+      let e : step_of q ≡ step (step_from q (the_step q)) = step_open q (λ d. omega arith) in
+      (step_from q (the_step q), e, step_is _ e)
 
 -- what `next_step` requires makes sense
 pub asked_sound : {n ch : ℕ} {ys ns : List ℕ} {table : List (List ℕ)} {c k : LiteralSet} → Asked n ys ns ch table c k
