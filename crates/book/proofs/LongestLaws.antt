@@ -63,7 +63,7 @@ read_short s {b} e =
     let v = b.header.variables in
     let cs = many_short (cost_from s) s 7 (λ i place c next h q. let k = cost_read s i place h q in (omega (arith, k.0), k.1)) u 1 5 p.header_good.within
     p.costs_read in
-    let rs = many_short (λ i. rule_from s v) s (3 + max_literals + window_size) (λ i place k next h q. rule_read s v place h q) r 1 p.rules_from_lem cs.1
+    let rs = many_short (λ i. rule_from s v) s (3 + max_literals + window_size) (λ i place k next h q. rule_read s v place h q) r 1 p.at_rules cs.1
     p.rules_read in
-    let fs = facts_short s u _ 0 p.facts_from_lem b.facts p.facts_end_lem (omega arith) p.facts_read in
+    let fs = facts_short s u _ 0 p.at_facts b.facts p.at_end (omega arith) p.facts_read in
     omega (arith, p.nothing_after, h.few_choices, h.few_rules, cs.0, rs.0, fs)

@@ -19,13 +19,13 @@ use Rattle.book.proofs.ValueLaws.{begin_value, then_value}
 -- What was read of each part, and where it ended.
 pub record Parts (s : List ℕ) (b : OrderBook) : Type 0 where
   pub header_good : Good GoodHeader s b.header 5
-  pub rules_from_lem : ℕ
-  pub costs_read : many (cost_from s) b.header.choices 1 5 ≡ value b.costs rules_from_lem
-  pub facts_from_lem : ℕ
-  pub rules_read : many (λ i. rule_from s b.header.variables) b.header.rules 1 rules_from_lem ≡ value b.rules facts_from_lem
-  pub facts_end_lem : ℕ
-  pub facts_read : facts_from s b.header.choices (suc (length s)) 0 facts_from_lem ≡ value b.facts facts_end_lem
-  pub nothing_after : length s ≤ facts_end_lem
+  pub at_rules : ℕ
+  pub costs_read : many (cost_from s) b.header.choices 1 5 ≡ value b.costs at_rules
+  pub at_facts : ℕ
+  pub rules_read : many (λ i. rule_from s b.header.variables) b.header.rules 1 at_rules ≡ value b.rules at_facts
+  pub at_end : ℕ
+  pub facts_read : facts_from s b.header.choices (suc (length s)) 0 at_facts ≡ value b.facts at_end
+  pub nothing_after : length s ≤ at_end
 
 -- no byte after the end
 book_ends_lem : (late : Bool) (a : OrderBook) (p : ℕ) {b : OrderBook} {end : ℕ} → cond late (refused 7 p) (value a p) ≡ value b end → (late ≡ false) × (a ≡ b)
@@ -43,11 +43,11 @@ parts s e =
     let e = book_ends_lem (ltb f.1 (length s)) _ f.1 f.3 in
     rw (← e.1) (record {
       header_good = rw w.0 at w.1;
-      rules_from_lem = c.1;
+      at_rules = c.1;
       costs_read = c.2;
-      facts_from_lem = r.1;
+      at_facts = r.1;
       rules_read = r.2;
-      facts_end_lem = f.1;
+      at_end = f.1;
       facts_read = f.2;
       nothing_after = ltb-false _ _ e.0;
     })

@@ -58,13 +58,13 @@ well_formed s {b} e =
     p.costs_read in
     let rs = many_good (λ i. rule_from s n) s (λ (r : Rule). LiteralsRise n r.literals) (λ i place r next h e. (rule_read s n place h e).1) b.header.rules
     1
-    p.rules_from_lem cs.within p.rules_read in
+    p.at_rules cs.within p.rules_read in
     record {
       few_variables = h.few_variables;
       few_choices = h.few_choices;
       choices_among = h.choices_among;
       few_rules = h.few_rules;
-      facts_rise = record { rises = facts_good s b.header.choices _ 0 p.facts_from_lem b.facts p.facts_end_lem p.facts_read };
+      facts_rise = record { rises = facts_good s b.header.choices _ 0 p.at_facts b.facts p.at_end p.facts_read };
       cost_count = cs.counted;
       costs_good = cs.each;
       rule_count = rs.counted;

@@ -84,8 +84,8 @@ as_book variables choices rules on off windows facts_on facts_off =
     record { variables = variables; choices = choices; rules = rules; on = on; off = off; windows = windows; facts_on = facts_on; facts_off = facts_off }
 
 abbrev pub as_step : Literal → ℕ → ℕ → ℕ → ℕ → ℕ → StepShown
-as_step goal reasons_on_lem reasons_off_lem new_on_lem new_off_lem cost =
-    record { goal = goal; reasons = as_literals reasons_on_lem reasons_off_lem; new = as_literals new_on_lem new_off_lem; cost = cost }
+as_step goal reasons_on reasons_off new_on new_off cost =
+    record { goal = goal; reasons = as_literals reasons_on reasons_off; new = as_literals new_on new_off; cost = cost }
 
 -- A log's length, its number of steps and its total.
 pub record LogShown : Type 0 where

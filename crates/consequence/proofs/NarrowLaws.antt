@@ -45,7 +45,7 @@ module _ {n : ℕ} {ys ns : List ℕ} {ch on off : ℕ} (below : ch < 2 ^ n) whe
       → Round n ys ns ch on off 1 kept
   round_first {m = m} s f e = record {
     found = m ∷ [];
-    in_turn = record { is_model_lem = to_theory ch (searched_model s f); common = kept_common n ch below (m ∷ []) };
+    in_turn = record { is_model = to_theory ch (searched_model s f); common = kept_common n ch below (m ∷ []) };
     counted = refl;
     at_most = omega arith;
     common = e ∙ common_one n ch below m;
@@ -63,7 +63,7 @@ module _ {n : ℕ} {ys ns : List ℕ} {ch on off : ℕ} (below : ch < 2 ^ n) whe
         record {
           said = (
             model_contradicts _ _ _ _ (to_theory ch (searched_model s g)),
-            record { yes_forced_lem = forced.0; no_forced_lem = forced.1; narrowed = end },
+            record { yes_forced = forced.0; no_forced = forced.1; narrowed = end },
           );
         }
 

@@ -59,13 +59,13 @@ pub record Denies (set : LiteralSet) (f : ℕ) : Type 0 where
 module _ (n choices : ℕ) (model : ℕ → Type 0) where
   -- The first model: what is kept after it is what it says of the choices.
   pub record FoundFirst (m : ℕ) : Type 0 where
-    pub is_model_lem : model m
+    pub is_model : model m
     pub common : kept_after choices (m ∷ []) ≡ common_of n choices (m ∷ [])
 
   -- A model found after others: it denies a literal kept before it, what is kept after it is what all models found so far have in common, and it takes at
   -- least one literal out.
   pub record FoundNext (before : List ℕ) (m : ℕ) : Type 0 where
-    pub is_model_lem : model m
+    pub is_model : model m
     pub denies : Denies (kept_after choices before) m
     pub common : kept_after choices (m ∷ before) ≡ common_of n choices (m ∷ before)
     pub takes_out : size (kept_after choices (m ∷ before)) < size (kept_after choices before)
@@ -92,4 +92,4 @@ module _ (n choices : ℕ) (model : ℕ → Type 0) where
 -- The models of a problem, as fillings of its variables.
 pub record ModelFilling (p : Problem) (f : ℕ) : Type 0 where
   pub below : f < 2 ^ p.variables
-  pub is_model_lem : models p f ≡ true
+  pub is_model : models p f ≡ true

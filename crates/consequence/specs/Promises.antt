@@ -27,8 +27,8 @@ pub record Denied (n : ℕ) (ys ns : List ℕ) (on off : ℕ) (kept : LiteralSet
 
 -- What the set forces over the choices, by Algorithm 2: so many models of the rules and the set were found for it.
 pub record Propagated (t : Theory) (on off : ℕ) (answer : LiteralSet) (number : ℕ) : Type 0 where
-  pub yes_forced_lem : answer.yes ≡ yes_forced t on off
-  pub no_forced_lem : answer.no ≡ no_forced t on off
+  pub yes_forced : answer.yes ≡ yes_forced t on off
+  pub no_forced : answer.no ≡ no_forced t on off
   pub narrowed : Narrowed t.variables t.choices (ModelOf t on off) number answer
 
 abbrev pub Concludes : ℕ → List ℕ → List ℕ → ℕ → ℕ → ℕ → Consequence → Type 0

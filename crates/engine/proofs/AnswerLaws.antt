@@ -43,7 +43,7 @@ module _ (p : MaskedProblem) {r : Consequence} (c : Concluded p.variables (yes_i
   forced_found e = let s = (rw e at c).said in record {
     said = record {
       some_model = s.0;
-      forced = ap₂ (λ (y : ℕ) (n : ℕ). record { yes = y; no = n }) s.1.yes_forced_lem s.1.no_forced_lem;
+      forced = ap₂ (λ (y : ℕ) (n : ℕ). record { yes = y; no = n }) s.1.yes_forced s.1.no_forced;
       number = _;
       narrowed = s.1.narrowed;
     };

@@ -33,13 +33,13 @@ module _ (p : Problem) where
   pub first_model_lem : has_model p ≡ true → First (ModelFilling p) (first_model p)
   unfolding has_model first_model
   first_model_lem e =
-      first_as (λ f m. record { below = m.below; is_model_lem = m.passes }) (λ f m. record { below = m.below; passes = m.is_model_lem })
+      first_as (λ f m. record { below = m.below; is_model = m.passes }) (λ f m. record { below = m.below; passes = m.is_model })
       (first_filling_lem p.variables (models p) e)
 
   -- what is first is it
   pub first_has : {f : ℕ} → First (ModelFilling p) f → has_model p ≡ true
   unfolding has_model
-  first_has {f} x = witness_some _ (models p) f x.among.below x.among.is_model_lem
+  first_has {f} x = witness_some _ (models p) f x.among.below x.among.is_model
 
   pub is_first_model : {f : ℕ} → First (ModelFilling p) f → f ≡ first_model p
   is_first_model x = first_unique x (first_model_lem (first_has x))
@@ -65,8 +65,8 @@ module _ {moment : Moment} where
   obeyed_model : {b c : OrderBook} → SameObeyed moment b c → (f : ℕ) → ModelFilling (problem_of moment b) f → ModelFilling (problem_of moment c) f
   unfolding problem_of models is_model
   obeyed_model x f m =
-      let w = and_both _ _ m.is_model_lem in
-      record { below = rw x.same_variables at m.below; is_model_lem = rw (x.there f m.below w.0, ← x.same_facts) w.1 }
+      let w = and_both _ _ m.is_model in
+      record { below = rw x.same_variables at m.below; is_model = rw (x.there f m.below w.0, ← x.same_facts) w.1 }
 
   obeyed_back : {b c : OrderBook} → SameObeyed moment b c → SameObeyed moment c b
   obeyed_back x = record { same_variables = sym x.same_variables; same_facts = sym x.same_facts; there = x.back; back = x.there }

@@ -76,7 +76,7 @@ module _ (p : MaskedProblem) {r : ConsequenceAnswer} where
   found_set f e = let s = (rw e at f).said in (s.some_model, s.forced)
 
 pub forced_by : (p : MaskedProblem) → ForcedBy (theory_in p) (forced_in p) p.facts
-forced_by p = record { yes_forced_lem = refl; no_forced_lem = refl }
+forced_by p = record { yes_forced = refl; no_forced = refl }
 
 -- ---- what the next step asks
 

@@ -103,7 +103,7 @@ pub record ConsequenceCall (s : List ℕ) (moment : Moment) (r : ConsequenceAnsw
 -- The answer on a step.
 unfoldable pub step_says : Answer → StepAnswer
 step_says nothing_left = StepAnswer.NothingLeft
-step_says (step s) = StepAnswer.Step s.goal (record { yes = s.reasons_on_lem; no = s.reasons_off_lem }) (record { yes = s.new_on_lem; no = s.new_off_lem }) s.cost
+step_says (step s) = StepAnswer.Step s.goal (record { yes = s.reasons_on; no = s.reasons_off }) (record { yes = s.new_on; no = s.new_off }) s.cost
 
 -- A known set lies between the given facts and the consequence.
 unfoldable pub between : LiteralSet → LiteralSet → LiteralSet → Bool
@@ -124,7 +124,7 @@ step_answer on off m = with_model (step_for (record { yes = on; no = off })) Ste
 abbrev pub IsNext : Read Problem → LiteralSet → StepAnswer → Type 0
 IsNext (value p end) known (StepAnswer.Step goal reasons new cost) =
     IsStep (question_of p known)
-    (record { goal = goal; reasons_on_lem = reasons.yes; reasons_off_lem = reasons.no; new_on_lem = new.yes; new_off_lem = new.no; cost = cost })
+    (record { goal = goal; reasons_on = reasons.yes; reasons_off = reasons.no; new_on = new.yes; new_off = new.no; cost = cost })
 IsNext (value p end) known StepAnswer.NothingLeft = known ≡ consequence_of p
 IsNext (value p end) known (StepAnswer.Refused number place) =
     (f : ℕ) → f < 2 ^ p.variables → models p f ≡ true → Between (given p) known (consequence_of p) → ⊥

@@ -20,8 +20,8 @@ abbrev moment_of : ℕ → ℕ → ℕ → ℕ → Moment
 moment_of y m d minute = record { date = date_of y m d; minute = minute }
 
 -- U = V = 1, rule (1) with a window. In force it is order d: 1 follows, in one step of cost 9. Out of force nothing follows, and the first model says no.
-abbrev in_force_lem : Window → Moment → MomentRow
-in_force_lem w m =
+abbrev row_in_force : Window → Moment → MomentRow
+row_in_force w m =
     record {
       moment = m;
       row = logs (one_rule (window_bytes w)) 1 (set 1 0) 15 1 9 (0x53 ∷ 0x54 ∷ 1 ∷ 0 ∷ 1 ∷ 1 ∷ 0 ∷ 9 ∷ 0x4F ∷ 0x4B ∷ 1 ∷ 0 ∷ 0 ∷ 0 ∷ 9 ∷ []);
@@ -42,27 +42,27 @@ on_weekdays days = record { first_day = date_of 2000 1 1; end_day = date_of 2099
 -- before the end minute, the end minute.
 unfoldable pub season_rows : List MomentRow
 season_rows =
-    in_force_lem season (moment_of 2024 3 1 720)
+    row_in_force season (moment_of 2024 3 1 720)
     ∷ out_of_force season (moment_of 2024 2 29 720)
-    ∷ in_force_lem season (moment_of 2024 10 31 720)
+    ∷ row_in_force season (moment_of 2024 10 31 720)
     ∷ out_of_force season (moment_of 2024 11 1 720)
     ∷ out_of_force season (moment_of 2024 3 2 720)
-    ∷ in_force_lem season (moment_of 2024 3 4 720)
-    ∷ in_force_lem season (moment_of 2024 3 1 540)
+    ∷ row_in_force season (moment_of 2024 3 4 720)
+    ∷ row_in_force season (moment_of 2024 3 1 540)
     ∷ out_of_force season (moment_of 2024 3 1 539)
-    ∷ in_force_lem season (moment_of 2024 3 1 1049)
+    ∷ row_in_force season (moment_of 2024 3 1 1049)
     ∷ out_of_force season (moment_of 2024 3 1 1050)
     ∷ []
 
 -- 29 February 2000 is a day; 1 January 2000 was a Saturday, 30 December 2099 is a Wednesday.
 unfoldable pub calendar_rows : List MomentRow
 calendar_rows =
-    in_force_lem leap_day (moment_of 2000 2 29 0)
-    ∷ in_force_lem leap_day (moment_of 2000 2 29 1439)
+    row_in_force leap_day (moment_of 2000 2 29 0)
+    ∷ row_in_force leap_day (moment_of 2000 2 29 1439)
     ∷ out_of_force leap_day (moment_of 2000 3 1 0)
-    ∷ in_force_lem (on_weekdays 0x20) (moment_of 2000 1 1 0)
+    ∷ row_in_force (on_weekdays 0x20) (moment_of 2000 1 1 0)
     ∷ out_of_force (on_weekdays 0x5F) (moment_of 2000 1 1 0)
-    ∷ in_force_lem (on_weekdays 0x04) (moment_of 2099 12 30 0)
+    ∷ row_in_force (on_weekdays 0x04) (moment_of 2099 12 30 0)
     ∷ out_of_force (on_weekdays 0x7B) (moment_of 2099 12 30 0)
     ∷ []
 

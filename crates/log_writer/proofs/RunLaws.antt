@@ -44,8 +44,8 @@ total_snoc (x ∷ ss) s = omega (arith, total_snoc ss s)
 -- ---- the next step's answer, taken back
 
 -- a step is made of the parts that were answered
-pub of_parts : {s : Step} {g : ℤ} {x y : LiteralSet} {k : ℕ} → s.goal ≡ g → record { yes = s.reasons_on_lem; no = s.reasons_off_lem } ≡ x
-    → record { yes = s.new_on_lem; no = s.new_off_lem } ≡ y → s.cost ≡ k → s ≡ put_step g x y k
+pub of_parts : {s : Step} {g : ℤ} {x y : LiteralSet} {k : ℕ} → s.goal ≡ g → record { yes = s.reasons_on; no = s.reasons_off } ≡ x
+    → record { yes = s.new_on; no = s.new_off } ≡ y → s.cost ≡ k → s ≡ put_step g x y k
 of_parts a b c d = rw (← a, ← b, ← c, ← d) refl
 
 pub answered_step : (a : Answer) {g : ℤ} {x y : LiteralSet} {k : ℕ} {r : Next} → r ≡ next_of a → r ≡ Next.Step g x y k → a ≡ step (put_step g x y k)
@@ -64,7 +64,7 @@ answered_nothing (step s) e f = let z : ◌≡◌ {A = ℕ} 0 1 = cc in absurd (
 module _ {n : ℕ} {ys ns : List ℕ} {ch : ℕ} {table : List (List ℕ)} {c facts : LiteralSet} (lg : LogAsked n ys ns ch table c facts) where
   module _ {known : LiteralSet} (a : Asked n ys ns ch table c known) {s : Step} (e : step_of (mask_question n ys ns ch table c known) ≡ step s) where
     -- what is asked next
-    pub asked_more : Asked n ys ns ch table c (record { yes = union known.yes s.new_on_lem; no = union known.no s.new_off_lem })
+    pub asked_more : Asked n ys ns ch table c (record { yes = union known.yes s.new_on; no = union known.no s.new_off })
     asked_more = record {
       posed = a.posed;
       few = a.few;
@@ -81,7 +81,7 @@ module _ {n : ℕ} {ys ns : List ℕ} {ch : ℕ} {table : List (List ℕ)} {c fa
     }
 
     pub goals_fewer : count (goals (mask_question n ys ns ch table c
-        (record { yes = union known.yes s.new_on_lem; no = union known.no s.new_off_lem }))) < count (goals (mask_question n ys ns ch table c known))
+        (record { yes = union known.yes s.new_on; no = union known.no s.new_off }))) < count (goals (mask_question n ys ns ch table c known))
     goals_fewer = growth.goals_fewer lg.forced (asked_sound a) e
 
     -- ---- how long the record is
@@ -95,16 +95,16 @@ module _ {n : ℕ} {ys ns : List ℕ} {ch : ℕ} {table : List (List ℕ)} {c fa
     pub step_short : length (step_bytes s) ≤ max_step_bytes
     step_short =
         let is = growth.is lg.forced (asked_sound a) e in
-        let reasons : ℕ = union s.reasons_on_lem s.reasons_off_lem in
-        let learnt : ℕ = union s.new_on_lem s.new_off_lem in
-        let reasons_few = few _ _ (within_trans _ _ _ is.is_candidate_lem.on_known a.known_yes)
-        (within_trans _ _ _ is.is_candidate_lem.off_known a.known_no) in
+        let reasons : ℕ = union s.reasons_on s.reasons_off in
+        let learnt : ℕ = union s.new_on s.new_off in
+        let reasons_few = few _ _ (within_trans _ _ _ is.is_candidate.on_known a.known_yes)
+        (within_trans _ _ _ is.is_candidate.off_known a.known_no) in
         let learnt_few = few _ _ (growth.new_within lg.forced (asked_sound a) e true) (growth.new_within lg.forced (asked_sound a) e false) in
         omega (
           arith,
           step_length (record_of s),
-          list_length s.reasons_on_lem s.reasons_off_lem,
-          list_length s.new_on_lem s.new_off_lem,
+          list_length s.reasons_on s.reasons_off,
+          list_length s.new_on s.new_off,
           ones_union reasons learnt (growth.reasons_new_apart lg.forced (asked_sound a) e),
           ones-le max_choices (union reasons learnt) (union_lt max_choices reasons learnt reasons_few learnt_few),
         )
@@ -158,8 +158,8 @@ module _ {n : ℕ} {ys ns : List ℕ} {ch : ℕ} {table : List (List ℕ)} {c fa
       pub logging_room : at + length (step_bytes s) ≤ length bytes
       logging_room = omega (arith, bytes_room, w.short, step_open, step_short w.asked e)
 
-      pub logging_more : {out : List ℕ} {next y z : ℕ} → s.cost < 65536 → Put bytes at (step_bytes s) out next → y ≡ union known.yes s.new_on_lem
-          → z ≡ union known.no s.new_off_lem
+      pub logging_more : {out : List ℕ} {next y z : ℕ} → s.cost < 65536 → Put bytes at (step_bytes s) out next → y ≡ union known.yes s.new_on
+          → z ≡ union known.no s.new_off
           → Logging before out next (record { yes = y; no = z }) (steps + 1) (total + s.cost)
       unfolding run_from with_new
       logging_more {out} {next} {y} {z} k p f g = rw (f, g) (record {
@@ -179,7 +179,7 @@ module _ {n : ℕ} {ys ns : List ℕ} {ch : ℕ} {table : List (List ℕ)} {c fa
       })
         where
           one : (t : ℕ) → w.turns ≡ suc t → run_from w.turns (mask_question n ys ns ch table c known)
-              ≡ s ∷ run_from t (mask_question n ys ns ch table c (record { yes = union known.yes s.new_on_lem; no = union known.no s.new_off_lem }))
+              ≡ s ∷ run_from t (mask_question n ys ns ch table c (record { yes = union known.yes s.new_on; no = union known.no s.new_off }))
           one t q = rw (q, e, run_from) refl
 
     pub end_room : at + length (ok_bytes steps total) ≤ length bytes

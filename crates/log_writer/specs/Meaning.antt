@@ -16,8 +16,8 @@ with_new q s =
       table = q.table;
       con_on = q.con_on;
       con_off = q.con_off;
-      known_on = union q.known_on s.new_on_lem;
-      known_off = union q.known_off s.new_off_lem;
+      known_on = union q.known_on s.new_on;
+      known_off = union q.known_off s.new_off;
     }
 
 -- Take the step, add its new literals to K, repeat until nothing is left, in at most so many turns.
@@ -37,7 +37,7 @@ run_for p = run_of (question_of p (given p))
 
 -- The ST record of a step.
 abbrev pub record_of : Step → StepRecord
-record_of s = record { goal = s.goal; reasons = literals_of s.reasons_on_lem s.reasons_off_lem; new = literals_of s.new_on_lem s.new_off_lem; cost = s.cost }
+record_of s = record { goal = s.goal; reasons = literals_of s.reasons_on s.reasons_off; new = literals_of s.new_on s.new_off; cost = s.cost }
 
 -- The sum of the costs written.
 unfoldable pub costs_written : List StepRecord → ℕ

@@ -14,7 +14,7 @@ use Rattle.log_writer.specs.declared.Written.{Written}
 -- A step as its record's writer is handed it.
 abbrev pub put_step : Literal → LiteralSet → LiteralSet → ℕ → Step
 put_step goal reasons new cost =
-    record { goal = goal; reasons_on_lem = reasons.yes; reasons_off_lem = reasons.no; new_on_lem = new.yes; new_off_lem = new.no; cost = cost }
+    record { goal = goal; reasons_on = reasons.yes; reasons_off = reasons.no; new_on = new.yes; new_off = new.no; cost = cost }
 
 -- The bytes of a step's record, and of several.
 abbrev pub step_bytes : Step → List ℕ

@@ -121,7 +121,7 @@ module _ {s log : List ℕ} {a : LogAnswer} {size steps total : ℕ} (c : BookCa
   print_log h p =
       let w = wrote_log c e long in
       let reads = written_reads w in
-      front_call h (text_from c (rw w.outcome refl)) (p.text_of_lem reads.0 w.says reads.1)
+      front_call h (text_from c (rw w.outcome refl)) (p.text_of reads.0 w.says reads.1)
 
 -- what a caller wants to know: the text that was put is within the buffer
 pub text_fits : {s before after : List ℕ} {r : Printed} {size : ℕ} → PrintCall s before after r → r ≡ Printed.Text size → length after ≡ length before

@@ -129,7 +129,7 @@ module _ (out₀ log : List ℕ) where
       pub walking_end : {out' : List ℕ} {r : ℕ} → Put out at (done_text (get_or (tail log from) 2 0) (total_in (tail log from))) out' r → LogPut log out₀ out' r
       unfolding read_log
       walking_end {out'} {r} p = record {
-        text_of_lem = λ choices l e.
+        text_of = λ choices l e.
             let same : l ≡ w.says = same_log choices w.choices (suc (length log)) (suc (length log)) 0 0 log e w.whole in
             rw same (put_front (left_last last p) w.room);
       }

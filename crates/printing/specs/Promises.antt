@@ -26,4 +26,4 @@ pub record Printable (log out : List ℕ) : Type 0 where
 
 -- Whatever log the bytes are read as, its text stands at the front.
 pub record LogPut (log before after : List ℕ) (r : ℕ) : Type 0 where
-  pub text_of_lem : (choices : ℕ) (l : Log) → read_log choices log ≡ is_log l → Front (log_text l) before after r
+  pub text_of : (choices : ℕ) (l : Log) → read_log choices log ≡ is_log l → Front (log_text l) before after r

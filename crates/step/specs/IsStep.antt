@@ -11,8 +11,8 @@ use Rattle.step.specs.Meaning.{Question, set_cost, yes_goals, no_goals, Candidat
 
 -- The set c is what the given facts force over choices.
 pub record ForcedBy (t : Theory) (c facts : LiteralSet) : Type 0 where
-  pub yes_forced_lem : c.yes ≡ yes_forced t facts.yes facts.no
-  pub no_forced_lem : c.no ≡ no_forced t facts.yes facts.no
+  pub yes_forced : c.yes ≡ yes_forced t facts.yes facts.no
+  pub no_forced : c.no ≡ no_forced t facts.yes facts.no
 
 -- K lies between the given facts and the consequence.
 pub record Between (facts known c : LiteralSet) : Type 0 where
@@ -81,8 +81,8 @@ pub record New (t : Theory) (on off d known m : ℕ) : Type 0 where
 
 -- The goal is among the new literals.
 abbrev pub Gained : Step → ℕ → Bool → Type 0
-Gained s v true = bit s.new_on_lem v ≡ 1
-Gained s v false = bit s.new_off_lem v ≡ 1
+Gained s v true = bit s.new_on v ≡ 1
+Gained s v false = bit s.new_off v ≡ 1
 
 -- The step: the first candidate in the order, and what its reasons force beyond K.
 pub record IsStep (q : Question) (s : Step) : Type 0 where
@@ -90,13 +90,13 @@ pub record IsStep (q : Question) (s : Step) : Type 0 where
   pub variable : ℕ
   pub says : Bool
   pub goal_said : s.goal ≡ literal_of variable says
-  pub is_candidate_lem : Candidature q s.reasons_on_lem s.reasons_off_lem variable says
-  pub cost_said : s.cost ≡ (placed q s.reasons_on_lem s.reasons_off_lem variable says).cost
+  pub is_candidate : Candidature q s.reasons_on s.reasons_off variable says
+  pub cost_said : s.cost ≡ (placed q s.reasons_on s.reasons_off variable says).cost
   -- every filling that obeys the rules and makes the reasons true makes the goal true
-  pub forced : (f : ℕ) → ModelOf q.theory s.reasons_on_lem s.reasons_off_lem f → holds f s.goal ≡ true
+  pub forced : (f : ℕ) → ModelOf q.theory s.reasons_on s.reasons_off f → holds f s.goal ≡ true
   -- no candidate comes before it; so none costs less
-  pub first : (on off v : ℕ) (b : Bool) → Candidature q on off v b → Upto (placed q s.reasons_on_lem s.reasons_off_lem variable says) (placed q on off v b)
+  pub first : (on off v : ℕ) (b : Bool) → Candidature q on off v b → Upto (placed q s.reasons_on s.reasons_off variable says) (placed q on off v b)
   pub cheapest : (on off v : ℕ) (b : Bool) → Candidature q on off v b → s.cost ≤ (placed q on off v b).cost
-  pub new_yes : New q.theory s.reasons_on_lem s.reasons_off_lem 1 q.known_on s.new_on_lem
-  pub new_no : New q.theory s.reasons_on_lem s.reasons_off_lem 0 q.known_off s.new_off_lem
+  pub new_yes : New q.theory s.reasons_on s.reasons_off 1 q.known_on s.new_on
+  pub new_no : New q.theory s.reasons_on s.reasons_off 0 q.known_off s.new_off
   pub gained : Gained s variable says

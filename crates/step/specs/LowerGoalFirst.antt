@@ -22,9 +22,9 @@ pub record FewerFacts (q : Question) (s : Step) : Type 0 where
   pub off : ℕ
   pub variable : ℕ
   pub says : Bool
-  pub is_candidate_lem : Candidature q on off variable says
+  pub is_candidate : Candidature q on off variable says
   pub least_cost : (a b v : ℕ) (y : Bool) → Candidature q a b v y → (placed q on off variable says).cost ≤ (placed q a b v y).cost
-  pub fewer : count on + count off < count s.reasons_on_lem + count s.reasons_off_lem
+  pub fewer : count on + count off < count s.reasons_on + count s.reasons_off
 
 -- The same of an answer: it is a step, and some candidate of least cost has fewer facts.
 abbrev pub FewerThan : Question → Answer → Type 0

@@ -144,10 +144,10 @@ module _ (q : Question) where
 -- A step as it is answered: the goal, the reasons, the new literals and the cost.
 pub record Step : Type 0 where
   pub goal : Literal
-  pub reasons_on_lem : ℕ
-  pub reasons_off_lem : ℕ
-  pub new_on_lem : ℕ
-  pub new_off_lem : ℕ
+  pub reasons_on : ℕ
+  pub reasons_off : ℕ
+  pub new_on : ℕ
+  pub new_off : ℕ
   pub cost : ℕ
 
 pub data Answer : Type 0 where
@@ -166,10 +166,10 @@ module _ (q : Question) where
   step_from c =
       record {
         goal = goal_literal q c.goal;
-        reasons_on_lem = reasons_on q c.reasons;
-        reasons_off_lem = reasons_off q c.reasons;
-        new_on_lem = new_on c.reasons;
-        new_off_lem = new_off c.reasons;
+        reasons_on = reasons_on q c.reasons;
+        reasons_off = reasons_off q c.reasons;
+        new_on = new_on c.reasons;
+        new_off = new_off c.reasons;
         cost = c.cost;
       }
 

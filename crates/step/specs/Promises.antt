@@ -207,4 +207,4 @@ step_at n ys ns ch c k best =
 abbrev pub next_of : Answer → Next
 next_of nothing_left = Next.NothingLeft
 next_of (step s) =
-    Next.Step s.goal (record { yes = s.reasons_on_lem; no = s.reasons_off_lem }) (record { yes = s.new_on_lem; no = s.new_off_lem }) s.cost
+    Next.Step s.goal (record { yes = s.reasons_on; no = s.reasons_off }) (record { yes = s.new_on; no = s.new_off }) s.cost

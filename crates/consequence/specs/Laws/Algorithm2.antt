@@ -40,8 +40,8 @@ module _ (n choices : ℕ) (model : ℕ → Type 0) where
       → in_every found l ≡ true
   unfolding in_every
   found_models l h [] t = absurd t
-  found_models l h (m ∷ []) t = rw (h m t.is_model_lem) refl
-  found_models l h (m ∷ (k ∷ before)) t = rw (h m t.0.is_model_lem) (found_models l h (k ∷ before) t.1)
+  found_models l h (m ∷ []) t = rw (h m t.is_model) refl
+  found_models l h (m ∷ (k ∷ before)) t = rw (h m t.0.is_model) (found_models l h (k ∷ before) t.1)
 
   -- one model more, which denies a literal kept so far
   pub one_more_found : choices < 2 ^ n → (found : List ℕ) (m : ℕ) → FoundInTurn n choices model found → model m → Denies (kept_after choices found) m
@@ -50,7 +50,7 @@ module _ (n choices : ℕ) (model : ℕ → Type 0) where
   one_more_found below [] m t x d = absurd t
   one_more_found below (k ∷ before) m t x d = (
     record {
-      is_model_lem = x;
+      is_model = x;
       denies = d;
       common = kept_common n choices below (m ∷ (k ∷ before));
       takes_out = takes_one_out choices (kept_after choices (k ∷ before)) m d;
@@ -62,10 +62,10 @@ module _ (n choices : ℕ) (model : ℕ → Type 0) where
   pub found_as : (other : ℕ → Type 0) → ((f : ℕ) → model f → other f) → (found : List ℕ) → FoundInTurn n choices model found
       → FoundInTurn n choices other found
   found_as other to [] t = t
-  found_as other to (m ∷ []) t = record { is_model_lem = to m t.is_model_lem; common = t.common }
+  found_as other to (m ∷ []) t = record { is_model = to m t.is_model; common = t.common }
   found_as other to (m ∷ (k ∷ before)) t = (
     record {
-      is_model_lem = to m t.0.is_model_lem;
+      is_model = to m t.0.is_model;
       denies = t.0.denies;
       common = t.0.common;
       takes_out = t.0.takes_out;

@@ -46,7 +46,7 @@ still_no (suc k) v h =
 one_by_one_found : (n k : ℕ) → k ≤ n → FoundInTurn n (full n) (AtMostOne n) (one_by_one k)
 unfolding one_by_one common_no holds
 one_by_one_found n zero h = record {
-  is_model_lem = record { below = pow_pos n; at_most_one = omega (arith, ones_zero) };
+  is_model = record { below = pow_pos n; at_most_one = omega (arith, ones_zero) };
   common = kept_common n (full n) (full_lt n) (0 ∷ []);
 }
 one_by_one_found n (suc k) h =
@@ -129,7 +129,7 @@ one_fewer n (m ∷ (k ∷ before)) t e = go (one_fewer n (k ∷ before) t.1 e) t
     go o (pos zero) i d = absurd i
     go o (pos (suc v)) i d = absurd (omega (arith, bit_none (kept_after (full n) (k ∷ before)).yes v o.no_yes))
     go o (negsuc v) i d =
-        let is : m ≡ single v = only_one m v t.0.is_model_lem.at_most_one (has_true m v (not-false (has m v) d)) in
+        let is : m ≡ single v = only_one m v t.0.is_model.at_most_one (has_true m v (not-false (has m v) d)) in
         let out : inter (kept_after (full n) (k ∷ before)).no (diff (full n) m) ≡ remove (kept_after (full n) (k ∷ before)).no v =
         both_no (kept_after (full n) (k ∷ before)).no m (full n) o.within ∙ ap (diff (kept_after (full n) (k ∷ before)).no) is in
         record {

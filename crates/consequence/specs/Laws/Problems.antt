@@ -50,11 +50,11 @@ module _ (p : Problem) (proper : Proper p.facts) where
   -- a model of the set is a model, and the other way round
   pub model_filling : (f : ℕ) → ModelOf (theory_of p) (given p).yes (given p).no f → ModelFilling p f
   unfolding theory_of
-  model_filling f m = record { below = m.below; is_model_lem = models_obeying f ∙ model_obeying (theory_of p) _ _ f m }
+  model_filling f m = record { below = m.below; is_model = models_obeying f ∙ model_obeying (theory_of p) _ _ f m }
 
   pub filling_model : (f : ℕ) → ModelFilling p f → ModelOf (theory_of p) (given p).yes (given p).no f
   unfolding theory_of
-  filling_model f m = obeying_model (theory_of p) (given p).yes (given p).no f m.below (sym (models_obeying f) ∙ m.is_model_lem)
+  filling_model f m = obeying_model (theory_of p) (given p).yes (given p).no f m.below (sym (models_obeying f) ∙ m.is_model)
 
 -- ---- for every filling
 

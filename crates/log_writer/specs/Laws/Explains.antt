@@ -59,7 +59,7 @@ module _ {p : Problem} (w : ProperProblem p) (some : has_model p ≡ true) where
 
   follows_more : (ks : List Literal) (known : LiteralSet) (s : Step) (rest : List Step) (a : Sound (question_of p known))
       (st : SameLiterals ks known.yes known.no) (e : step_of (question_of p known) ≡ step s)
-      → RunHolds (ks ++ literals_of s.new_on_lem s.new_off_lem) (record { yes = union known.yes s.new_on_lem; no = union known.no s.new_off_lem }) rest
+      → RunHolds (ks ++ literals_of s.new_on s.new_off) (record { yes = union known.yes s.new_on; no = union known.no s.new_off }) rest
       → RunHolds ks known (s ∷ rest)
   unfolding known_after costs_written
   follows_more ks known s rest a st e f =
@@ -80,12 +80,12 @@ module _ {p : Problem} (w : ProperProblem p) (some : has_model p ≡ true) where
   follows (suc turns) ks known a st c =
       go (step_of (question_of p known)) refl
       (λ s d.
-      follows turns (ks ++ literals_of s.new_on_lem s.new_off_lem) (record { yes = union known.yes s.new_on_lem; no = union known.no s.new_off_lem })
+      follows turns (ks ++ literals_of s.new_on s.new_off) (record { yes = union known.yes s.new_on; no = union known.no s.new_off })
       (growth.sound_more (forced w) a d) (same_more w a st d) (omega (arith, c, growth.goals_fewer (forced w) a d)))
     where
       go : (r : Answer) → step_of (question_of p known) ≡ r
           → ((s : Step) → step_of (question_of p known) ≡ step s
-          → RunHolds (ks ++ literals_of s.new_on_lem s.new_off_lem) (record { yes = union known.yes s.new_on_lem; no = union known.no s.new_off_lem })
+          → RunHolds (ks ++ literals_of s.new_on s.new_off) (record { yes = union known.yes s.new_on; no = union known.no s.new_off })
           (run_from turns (with_new (question_of p known) s)))
           → RunHolds ks known (elim r [ nothing_left ↦ [] | step s ↦ s ∷ run_from turns (with_new (question_of p known) s) ])
       go nothing_left d ih = follows_none ks known a st d

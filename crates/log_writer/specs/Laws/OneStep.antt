@@ -78,7 +78,7 @@ module _ {p : Problem} (w : ProperProblem p) where
   choices_below = w.choices_below
 
   pub forced : ForcedBy (theory_of p) (consequence_of p) (given p)
-  forced = record { yes_forced_lem = yes_consequence_lem p w.facts_proper; no_forced_lem = no_consequence_lem p w.facts_proper }
+  forced = record { yes_forced = yes_consequence_lem p w.facts_proper; no_forced = no_consequence_lem p w.facts_proper }
 
   pub demand : Demand2 p (consequence_of p)
   demand = consequence_demand p w.choices_below
@@ -107,24 +107,24 @@ module _ {p : Problem} (w : ProperProblem p) where
     is : IsStep (question_of p known) s
     is = growth.is forced a e
 
-    reasons_apart : Apart s.reasons_on_lem s.reasons_off_lem
+    reasons_apart : Apart s.reasons_on s.reasons_off
     reasons_apart = growth.reasons_apart forced a e
 
     -- its lists and their masks
-    reasons : SameLiterals (literals_of s.reasons_on_lem s.reasons_off_lem) s.reasons_on_lem s.reasons_off_lem
+    reasons : SameLiterals (literals_of s.reasons_on s.reasons_off) s.reasons_on s.reasons_off
     reasons = same_listed _ _ reasons_apart
 
-    news : SameLiterals (literals_of s.new_on_lem s.new_off_lem) s.new_on_lem s.new_off_lem
+    news : SameLiterals (literals_of s.new_on s.new_off) s.new_on s.new_off
     news = same_listed _ _ (growth.new_apart forced a e)
 
     new_said : (says : Bool)
-        → New (theory_of p) s.reasons_on_lem s.reasons_off_lem (digit says) (cond says known.yes known.no) (cond says s.new_on_lem s.new_off_lem)
+        → New (theory_of p) s.reasons_on s.reasons_off (digit says) (cond says known.yes known.no) (cond says s.new_on s.new_off)
     new_said = growth.new_said forced a e
 
     -- what lies within what
-    reasons_within : (says : Bool) → Within (cond says s.reasons_on_lem s.reasons_off_lem) (cond says known.yes known.no)
-    reasons_within true = is.is_candidate_lem.on_known
-    reasons_within false = is.is_candidate_lem.off_known
+    reasons_within : (says : Bool) → Within (cond says s.reasons_on s.reasons_off) (cond says known.yes known.no)
+    reasons_within true = is.is_candidate.on_known
+    reasons_within false = is.is_candidate.off_known
 
     known_within : (says : Bool) → Within (cond says known.yes known.no) (cond says (yes_consequence p) (no_consequence p))
     known_within true = a.known_on
@@ -137,32 +137,32 @@ module _ {p : Problem} (w : ProperProblem p) where
     known_choices : (says : Bool) → Within (cond says known.yes known.no) p.choices
     known_choices says = within_trans _ _ _ (known_within says) (con_choices says)
 
-    reasons_choices : (says : Bool) → Within (cond says s.reasons_on_lem s.reasons_off_lem) p.choices
+    reasons_choices : (says : Bool) → Within (cond says s.reasons_on s.reasons_off) p.choices
     reasons_choices says = within_trans _ _ _ (reasons_within says) (known_choices says)
 
-    new_choices : (says : Bool) → Within (cond says s.new_on_lem s.new_off_lem) p.choices
+    new_choices : (says : Bool) → Within (cond says s.new_on s.new_off) p.choices
     new_choices says = within_trans _ _ _ (growth.new_within forced a e says) (con_choices says)
 
     -- reasons and new literals
-    reasons_known : (l : Literal) → In l (literals_of s.reasons_on_lem s.reasons_off_lem) → In l ks
+    reasons_known : (l : Literal) → In l (literals_of s.reasons_on s.reasons_off) → In l ks
     reasons_known =
         each_literal _ (λ i. absurd (reasons.none_zero i)) (λ v says i. st.bit_in v says (within_bit (reasons_within says) v (reasons.in_bit v says i)))
 
-    goal_new : In s.goal (literals_of s.new_on_lem s.new_off_lem)
+    goal_new : In s.goal (literals_of s.new_on s.new_off)
     goal_new = rw is.goal_said (news.bit_in is.variable is.says (gained is.says is.gained))
       where
-        gained : (says : Bool) → Gained s is.variable says → bit (cond says s.new_on_lem s.new_off_lem) is.variable ≡ 1
+        gained : (says : Bool) → Gained s is.variable says → bit (cond says s.new_on s.new_off) is.variable ≡ 1
         gained true g = g
         gained false g = g
 
-    new_unknown : (l : Literal) → In l (literals_of s.new_on_lem s.new_off_lem) → Unknown p ks l
+    new_unknown : (l : Literal) → In l (literals_of s.new_on s.new_off) → Unknown p ks l
     unfolding theory_of
     new_unknown =
         each_literal _ (λ i. absurd (news.none_zero i)) (λ v says i.
         let t = (new_said says).sound v (news.in_bit v says i) in
         (over p v says t.0, λ k. omega (arith, t.1, st.in_bit v says k)))
 
-    new_forced : (l : Literal) → In l (literals_of s.new_on_lem s.new_off_lem) → Forces p (literals_of s.reasons_on_lem s.reasons_off_lem) l
+    new_forced : (l : Literal) → In l (literals_of s.new_on s.new_off) → Forces p (literals_of s.reasons_on s.reasons_off) l
     new_forced =
         each_literal _ (λ i. absurd (news.none_zero i)) (λ v says i.
         record { forces = λ f h o k. holds_digit f v says (((new_said says).sound v (news.in_bit v says i)).2 f (to_model reasons f h o k)) })
@@ -172,7 +172,7 @@ module _ {p : Problem} (w : ProperProblem p) where
         let out : bit (cond says known.yes known.no) v ≡ 1 → ⊥ = λ k. n (st.bit_in v says k) in
         omega (arith, bit_le (cond says known.yes known.no) v)
 
-    new_all : (l : Literal) → Unknown p ks l → Forces p (literals_of s.reasons_on_lem s.reasons_off_lem) l → In l (literals_of s.new_on_lem s.new_off_lem)
+    new_all : (l : Literal) → Unknown p ks l → Forces p (literals_of s.reasons_on s.reasons_off) l → In l (literals_of s.new_on s.new_off)
     unfolding theory_of
     new_all =
         each_literal _ (λ u r. absurd u.0) (λ v says u r.
@@ -180,7 +180,7 @@ module _ {p : Problem} (w : ProperProblem p) where
         news.bit_in v says ((new_said says).complete v (choice_variable v c) c (not_known v says u.1)
         (λ f m. digit_holds f v says (r.forces f (is_below m) (rules_obeyed m) (same_holds reasons f m.keeps m.avoids)))))
 
-    contradiction : Contradicts p (neg_ℤ s.goal ∷ literals_of s.reasons_on_lem s.reasons_off_lem)
+    contradiction : Contradicts p (neg_ℤ s.goal ∷ literals_of s.reasons_on s.reasons_off)
     contradiction = record {
       none = λ f h o k.
           let t = first_holds f _ _ k in
@@ -198,18 +198,18 @@ module _ {p : Problem} (w : ProperProblem p) where
 
     -- the goal's variable is a choice's, and the reasons say nothing of it
     goal_choice : bit p.choices is.variable ≡ 1
-    goal_choice = (goal_at is.variable is.says is.is_candidate_lem.goal).0
+    goal_choice = (goal_at is.variable is.says is.is_candidate.goal).0
 
-    goal_apart : (bit s.reasons_on_lem is.variable ≡ 0) × (bit s.reasons_off_lem is.variable ≡ 0)
+    goal_apart : (bit s.reasons_on is.variable ≡ 0) × (bit s.reasons_off is.variable ≡ 0)
     goal_apart =
-        let g = goal_at is.variable is.says is.is_candidate_lem.goal in
+        let g = goal_at is.variable is.says is.is_candidate.goal in
         (omega (arith, g.1, (reasons_within true).keeps is.variable), omega (arith, g.2, (reasons_within false).keeps is.variable))
 
-    cost_theirs : s.cost ≡ cost_of_set p (neg_ℤ s.goal ∷ literals_of s.reasons_on_lem s.reasons_off_lem)
+    cost_theirs : s.cost ≡ cost_of_set p (neg_ℤ s.goal ∷ literals_of s.reasons_on s.reasons_off)
     unfolding theory_of
     cost_theirs =
         rw is.goal_said (is.cost_said
-        ∙ reasons_cost p s.reasons_on_lem s.reasons_off_lem (inside _ (reasons_choices true)) (inside _ (reasons_choices false)) reasons_apart
+        ∙ reasons_cost p s.reasons_on s.reasons_off (inside _ (reasons_choices true)) (inside _ (reasons_choices false)) reasons_apart
         is.variable is.says (choice_variable _ goal_choice) goal_apart.0 goal_apart.1)
 
     -- another set of known literals
@@ -272,10 +272,10 @@ module _ {p : Problem} (w : ProperProblem p) where
 
     -- ---- the record fits its bytes
 
-    against_apart : Apart (opposite_on is.says s.reasons_on_lem is.variable) (opposite_off is.says s.reasons_off_lem is.variable)
+    against_apart : Apart (opposite_on is.says s.reasons_on is.variable) (opposite_off is.says s.reasons_off is.variable)
     against_apart = go is.says
       where
-        go : (says : Bool) → Apart (opposite_on says s.reasons_on_lem is.variable) (opposite_off says s.reasons_off_lem is.variable)
+        go : (says : Bool) → Apart (opposite_on says s.reasons_on is.variable) (opposite_off says s.reasons_off is.variable)
         go true = apart_symm _ _ (apart_insert _ _ _ (apart_symm _ _ reasons_apart) goal_apart.0)
         go false = apart_insert _ _ _ reasons_apart goal_apart.1
 
@@ -292,5 +292,5 @@ module _ {p : Problem} (w : ProperProblem p) where
           cost_fits = cost_small;
         }
 
-    pub same_more : SameLiterals (ks ++ literals_of s.new_on_lem s.new_off_lem) (union known.yes s.new_on_lem) (union known.no s.new_off_lem)
+    pub same_more : SameLiterals (ks ++ literals_of s.new_on s.new_off) (union known.yes s.new_on) (union known.no s.new_off)
     same_more = same_both st news

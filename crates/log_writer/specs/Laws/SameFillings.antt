@@ -28,7 +28,7 @@ module _ {t u : Theory} (s : SameChoices t u) (table : List (List ℕ)) {c facts
   same_from zero known x y = refl
   same_from (suc turns) known x y =
       go (step_of (asking t table c known)) (λ a d.
-      same_from turns (record { yes = union known.yes a.new_on_lem; no = union known.no a.new_off_lem }) (sound_more here x d)
+      same_from turns (record { yes = union known.yes a.new_on; no = union known.no a.new_off }) (sound_more here x d)
       (sound_more there y (sym same ∙ d)))
       ∙ ap (λ (r : Answer). elim r [ nothing_left ↦ [] | step a ↦ a ∷ run_from turns (with_new (asking u table c known) a) ]) same
     where

@@ -27,7 +27,7 @@ module _ {t : Theory} {on off more-on more-off : ℕ} where
 module _ {t : Theory} {c facts : LiteralSet} (fc : ForcedBy t c facts) where
   -- every model of the given facts makes all of the consequence true
   pub consequence_model : (f : ℕ) → ModelOf t facts.yes facts.no f → ModelOf t c.yes c.no f
-  consequence_model f m = rw (fc.yes_forced_lem, fc.no_forced_lem) (forced_model t facts.yes facts.no f m)
+  consequence_model f m = rw (fc.yes_forced, fc.no_forced) (forced_model t facts.yes facts.no f m)
 
   -- and so does every model of what holds them
   pub known_forces : {known : LiteralSet} → Between facts known c → (f : ℕ) → ModelOf t known.yes known.no f → ModelOf t c.yes c.no f
@@ -36,8 +36,8 @@ module _ {t : Theory} {c facts : LiteralSet} (fc : ForcedBy t c facts) where
 module _ {t : Theory} (below : t.choices < 2 ^ t.variables) {c facts : LiteralSet} (fc : ForcedBy t c facts) where
   -- what it says of one sign: exactly the choices that have its digit in every model
   pub exact : (says : Bool) → Exactly t facts.yes facts.no (digit says) (cond says c.yes c.no)
-  exact true = rw fc.yes_forced_lem (yes_exactly t facts.yes facts.no)
-  exact false = rw fc.no_forced_lem (no_exactly t facts.yes facts.no)
+  exact true = rw fc.yes_forced (yes_exactly t facts.yes facts.no)
+  exact false = rw fc.no_forced (no_exactly t facts.yes facts.no)
 
   pub over_choices_lem : (says : Bool) → Within (cond says c.yes c.no) t.choices
   over_choices_lem says = within_by _ _ (λ v e. ((exact says).sound v e).0)

@@ -79,7 +79,7 @@ module _ (q : Question) (z : Sound q) where
           off = reasons_off q (the_step q).reasons;
           variable = it.variable;
           says = it.says;
-          is_candidate_lem = it.is_candidate_lem;
+          is_candidate = it.is_candidate;
           least_cost = λ a b v y k. omega (arith, it.cost_said, it.cheapest a b v y k);
           fewer = omega (arith, h, facts_of (the_step q) step_first, facts_of (lower_goal_candidate q) lower_first);
         }
@@ -93,20 +93,20 @@ module _ (q : Question) (z : Sound q) where
 
     -- no candidate of least cost has fewer facts than the step
     no_fewer : FewerFacts q (step_from q (the_step q)) → ⊥
-    no_fewer f = go (it.first f.on f.off f.variable f.says f.is_candidate_lem)
+    no_fewer f = go (it.first f.on f.off f.variable f.says f.is_candidate)
       where
         mine : Candidate
-        mine = placed q (step_from q (the_step q)).reasons_on_lem (step_from q (the_step q)).reasons_off_lem it.variable it.says
+        mine = placed q (step_from q (the_step q)).reasons_on (step_from q (the_step q)).reasons_off it.variable it.says
 
         go : Upto mine (placed q f.on f.off f.variable f.says) → ⊥
-        go (inl h) = omega (arith, h, f.least_cost _ _ _ _ it.is_candidate_lem)
+        go (inl h) = omega (arith, h, f.least_cost _ _ _ _ it.is_candidate)
         go (inr h) =
             omega (
               arith,
               lex_le h.1,
               f.fewer,
-              facts_apart f.is_candidate_lem.on_known f.is_candidate_lem.off_known,
-              facts_apart it.is_candidate_lem.on_known it.is_candidate_lem.off_known,
+              facts_apart f.is_candidate.on_known f.is_candidate.off_known,
+              facts_apart it.is_candidate.on_known it.is_candidate.off_known,
             )
 
   -- ---- the answers

@@ -90,23 +90,23 @@ module _ {t u : Theory} (s : SameChoices t u) (table : List (List ℕ)) (c known
     (y : Sound (asking u table c known)) where
   -- the step with the one is the step with the other
   module _ {a : Step} (x : IsStep (asking t table c known) a) where
-    reasons_forcing : SameForcing t u a.reasons_on_lem a.reasons_off_lem
+    reasons_forcing : SameForcing t u a.reasons_on a.reasons_off
     reasons_forcing =
-        same_forcing s (on_choices s table c known z x.is_candidate_lem.on_known) (off_choices s table c known z x.is_candidate_lem.off_known)
+        same_forcing s (on_choices s table c known z x.is_candidate.on_known) (off_choices s table c known z x.is_candidate.off_known)
 
-    said : placed (asking t table c known) a.reasons_on_lem a.reasons_off_lem x.variable x.says
-        ≡ placed (asking u table c known) a.reasons_on_lem a.reasons_off_lem x.variable x.says
-    said = placed_same s table c known z x.is_candidate_lem
+    said : placed (asking t table c known) a.reasons_on a.reasons_off x.variable x.says
+        ≡ placed (asking u table c known) a.reasons_on a.reasons_off x.variable x.says
+    said = placed_same s table c known z x.is_candidate
 
     first_same : (on off v : ℕ) (b : Bool) → Candidature (asking u table c known) on off v b
-        → Upto (placed (asking u table c known) a.reasons_on_lem a.reasons_off_lem x.variable x.says) (placed (asking u table c known) on off v b)
+        → Upto (placed (asking u table c known) a.reasons_on a.reasons_off x.variable x.says) (placed (asking u table c known) on off v b)
     first_same on off v b k =
         let other = candidate_same (choices_back s) table c known y k in
         subst₂ Upto said (placed_same s table c known z other) (x.first on off v b other)
 
-    forced_same : (f : ℕ) → ModelOf u a.reasons_on_lem a.reasons_off_lem f → holds f a.goal ≡ true
+    forced_same : (f : ℕ) → ModelOf u a.reasons_on a.reasons_off f → holds f a.goal ≡ true
     forced_same f m =
-        let o = goal_choice s table c known z x.is_candidate_lem in
+        let o = goal_choice s table c known z x.is_candidate in
         rw x.goal_said (holds_digit f x.variable x.says
         (same_digit reasons_forcing x.variable x.says (member_lt _ t.choices _ o s.below) o
         (λ g n. digit_holds g x.variable x.says (rw x.goal_said at (x.forced g n))) f m))
@@ -117,7 +117,7 @@ module _ {t u : Theory} (s : SameChoices t u) (table : List (List ℕ)) (c known
           variable = x.variable;
           says = x.says;
           goal_said = x.goal_said;
-          is_candidate_lem = candidate_same s table c known z x.is_candidate_lem;
+          is_candidate = candidate_same s table c known z x.is_candidate;
           cost_said = x.cost_said ∙ ap (λ (d : Candidate). d.cost) said;
           forced = forced_same;
           first = first_same;

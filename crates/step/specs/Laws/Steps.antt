@@ -131,8 +131,8 @@ module _ {n : ℕ} {ys ns : List ℕ} {ch : ℕ} {reasons k : LiteralSet} {o : C
   learnt s e p q =
       let f = (subst (Concluded n ys ns ch reasons.yes reasons.no) e s).said.1 in
       record {
-        yes_new = p ∙ ap (λ (m : ℕ). diff m k.yes) f.yes_forced_lem;
-        no_new = q ∙ ap (λ (m : ℕ). diff m k.no) f.no_forced_lem;
+        yes_new = p ∙ ap (λ (m : ℕ). diff m k.yes) f.yes_forced;
+        no_new = q ∙ ap (λ (m : ℕ). diff m k.no) f.no_forced;
         forced = _;
         number = _;
         propagated = f;

@@ -140,7 +140,7 @@ module _ (q : Question) (z : Sound q) where
         variable = v;
         says = b;
         goal_said = refl;
-        is_candidate_lem = it;
+        is_candidate = it;
         cost_said = costs;
         forced = λ f m. holds_digit f v b (forced_by on off v b it.contradicts f m);
         first = λ a o u y k. first a o u y k;

@@ -26,8 +26,8 @@ new_unique below {m = m} {k = k} x y =
 
 module _ (q : Question) (z : Sound q) {a b : Step} (x : IsStep q a) (y : IsStep q b) where
   -- each is first, so neither comes before the other
-  same_place : placed q a.reasons_on_lem a.reasons_off_lem x.variable x.says ≡ placed q b.reasons_on_lem b.reasons_off_lem y.variable y.says
-  same_place = upto_both (x.first _ _ _ _ y.is_candidate_lem) (y.first _ _ _ _ x.is_candidate_lem)
+  same_place : placed q a.reasons_on a.reasons_off x.variable x.says ≡ placed q b.reasons_on b.reasons_off y.variable y.says
+  same_place = upto_both (x.first _ _ _ _ y.is_candidate) (y.first _ _ _ _ x.is_candidate)
 
   same_variable : x.variable ≡ y.variable
   same_variable = ap (λ (c : Candidate). c.goal) same_place
@@ -35,29 +35,29 @@ module _ (q : Question) (z : Sound q) {a b : Step} (x : IsStep q a) (y : IsStep 
   -- the goal says what the consequence says
   same_says : x.says ≡ y.says
   same_says =
-      sym (goal_is q (sound_forcing q z) _ _ x.is_candidate_lem.goal).1 ∙ ap (λ (v : ℕ). has (yes_goals q) v) same_variable
-      ∙ (goal_is q (sound_forcing q z) _ _ y.is_candidate_lem.goal).1
+      sym (goal_is q (sound_forcing q z) _ _ x.is_candidate.goal).1 ∙ ap (λ (v : ℕ). has (yes_goals q) v) same_variable
+      ∙ (goal_is q (sound_forcing q z) _ _ y.is_candidate.goal).1
 
   same_goal : a.goal ≡ b.goal
   same_goal = x.goal_said ∙ ap₂ literal_of same_variable same_says ∙ sym y.goal_said
 
   -- reasons are told by their variables
-  same_on : a.reasons_on_lem ≡ b.reasons_on_lem
+  same_on : a.reasons_on ≡ b.reasons_on
   same_on =
-      sym (union_on q (sound_forcing q z) _ _ x.is_candidate_lem.on_known x.is_candidate_lem.off_known)
+      sym (union_on q (sound_forcing q z) _ _ x.is_candidate.on_known x.is_candidate.off_known)
       ∙ ap (λ (c : Candidate). reasons_on q c.reasons) same_place
-      ∙ union_on q (sound_forcing q z) _ _ y.is_candidate_lem.on_known y.is_candidate_lem.off_known
+      ∙ union_on q (sound_forcing q z) _ _ y.is_candidate.on_known y.is_candidate.off_known
 
-  same_off : a.reasons_off_lem ≡ b.reasons_off_lem
+  same_off : a.reasons_off ≡ b.reasons_off
   same_off =
-      sym (union_off q (sound_forcing q z) _ _ x.is_candidate_lem.on_known x.is_candidate_lem.off_known)
+      sym (union_off q (sound_forcing q z) _ _ x.is_candidate.on_known x.is_candidate.off_known)
       ∙ ap (λ (c : Candidate). reasons_off q c.reasons) same_place
-      ∙ union_off q (sound_forcing q z) _ _ y.is_candidate_lem.on_known y.is_candidate_lem.off_known
+      ∙ union_off q (sound_forcing q z) _ _ y.is_candidate.on_known y.is_candidate.off_known
 
-  same_new_on : a.new_on_lem ≡ b.new_on_lem
+  same_new_on : a.new_on ≡ b.new_on
   same_new_on = new_unique z.choices_below x.new_yes (rw (same_on, same_off) y.new_yes)
 
-  same_new_off : a.new_off_lem ≡ b.new_off_lem
+  same_new_off : a.new_off ≡ b.new_off
   same_new_off = new_unique z.choices_below x.new_no (rw (same_on, same_off) y.new_no)
 
   same_cost : a.cost ≡ b.cost
@@ -66,9 +66,9 @@ module _ (q : Question) (z : Sound q) {a b : Step} (x : IsStep q a) (y : IsStep 
   pub step_unique : a ≡ b
   step_unique = λ i. record {
     goal = same_goal i;
-    reasons_on_lem = same_on i;
-    reasons_off_lem = same_off i;
-    new_on_lem = same_new_on i;
-    new_off_lem = same_new_off i;
+    reasons_on = same_on i;
+    reasons_off = same_off i;
+    new_on = same_new_on i;
+    new_off = same_new_off i;
     cost = same_cost i;
   }
