@@ -1,4 +1,4 @@
-//! Links the archive that `rt staticlib c_interface` writes. WHY_ARCHIVE names its folder where it is another one.
+//! Links the archive of crate `c_interface`, which `host/run` puts there. WHY_ARCHIVE names its folder where it is another one.
 use std::path::PathBuf;
 
 fn main() {
