@@ -1,3 +1,4 @@
 mod CopyLaws
 mod DenyLaws
 mod NarrowLaws
+pub mod SameFillings

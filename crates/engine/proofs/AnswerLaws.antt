@@ -15,7 +15,7 @@ use Rattle.book.specs.declared.Reading.{Reading}
 use Rattle.book.specs.declared.Verdict.TheVariants as Verdict
 use Rattle.book.proofs.PartLaws.{book_refused}
 use Rattle.sat.specs.Meaning.{Model}
-use Rattle.first_model.specs.Laws.Order.{first_as}
+use Rattle.first_model.proofs.Laws.Order.{first_as}
 use Rattle.problem.specs.Problem.{Problem, problem_of, given}
 use Rattle.problem.specs.Masked.{masked_from, yes_in, no_in}
 use Rattle.problem.specs.declared.MaskedProblem.{MaskedProblem}

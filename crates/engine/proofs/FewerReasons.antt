@@ -6,7 +6,7 @@ use Rattle.dates.specs.declared.Moment.{Moment}
 use Rattle.literals.specs.declared.LiteralSet.{LiteralSet}
 use Rattle.records.specs.Format.{Read, value, refused}
 use Rattle.problem.specs.Problem.{Problem}
-use Rattle.step.specs.Theorems.{changes_exactly}
+use Rattle.step.proofs.Theorems.{changes_exactly}
 use Rattle.log_writer.specs.Laws.OneStep.{choices_below, forced}
 use Rattle.log_writer.specs.Laws.Explains.{consistent}
 use Rattle.engine.specs.Calls.{posed}

@@ -12,13 +12,13 @@ use Rattle.sat.specs.Meaning.{is_model}
 use Rattle.sat.specs.Laws.Fillings.{witness_some}
 use Rattle.sat.specs.Laws.Rules.{rules_each, each_rules}
 use Rattle.first_model.specs.Meaning.{First}
-use Rattle.first_model.specs.Laws.Order.{first_unique, first_as}
-use Rattle.first_model.specs.Laws.FirstFilling.{first_filling_lem}
+use Rattle.first_model.proofs.Laws.Order.{first_unique, first_as}
+use Rattle.first_model.proofs.Laws.FirstFilling.{first_filling_lem}
 use Rattle.problem.specs.Problem.{Problem, problem_of}
 use Rattle.consequence.specs.Meaning.{models, has_model}
 use Rattle.consequence.specs.Algorithm2.{ModelFilling}
 use Rattle.consequence.specs.Laws.Problems.{no_filling}
-use Rattle.consequence.specs.Laws.SameFillings.{same_truth}
+use Rattle.consequence.proofs.SameFillings.{same_truth}
 use Rattle.engine.specs.Calls.{with_model, first_model, model_answer}
 use Rattle.engine.specs.FirstModel.{AnswersFirst, EqualModels, SameObeyed}
 use Rattle.engine.specs.SameScreens.{Reordered, BothRead}

@@ -34,7 +34,7 @@ use Rattle.log_form.specs.Restarts.{is_begun, Begun}
 use Rattle.log_form.specs.Laws.Restarts.{begun_true, begun_is, begun_false, begun_none}
 use Rattle.log_writer.specs.Meaning.{run_of, run_for, log_of}
 use Rattle.log_writer.specs.Promises.{LogWritten}
-use Rattle.log_writer.specs.Laws.Explains.{explained, reads_back}
+use Rattle.log_writer.proofs.Explains.{explained, reads_back}
 use Rattle.log_writer.specs.declared.Written.{Written}
 use Rattle.engine.specs.Calls.{read_at, posed, with_model, NineExactly, LogOutcome, logged, refused_with, log_outcome, log_answer, buffer_after, LoggedAs}
 use Rattle.engine.specs.Calls.{Explains, LogCall, resumed, resumed_outcome, Resumes, ResumeCall}

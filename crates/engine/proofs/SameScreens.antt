@@ -20,12 +20,12 @@ use Rattle.problem.specs.Problem.{Problem, problem_of, given}
 use Rattle.problem.specs.Proper.{ProperProblem}
 use Rattle.sat.specs.Laws.Rules.{rules_each, each_rules}
 use Rattle.first_model.specs.Meaning.{weight, First}
-use Rattle.first_model.specs.Laws.Order.{agree_weight, weight_agree, first_weight}
+use Rattle.first_model.proofs.Laws.Order.{agree_weight, weight_agree, first_weight}
 use Rattle.consequence.specs.Meaning.{has_model, consequence_of, theory_of, ModelOf}
 use Rattle.consequence.specs.SameFillings.{Restriction, SameOverChoices}
 use Rattle.consequence.specs.Algorithm2.{ModelFilling}
 use Rattle.consequence.specs.Laws.Problems.{model_filling, filling_model, no_filling}
-use Rattle.consequence.specs.Laws.SameFillings.{agreeing_model, theories_same, given_same, same_has_model, same_consequence}
+use Rattle.consequence.proofs.SameFillings.{agreeing_model, theories_same, given_same, same_has_model, same_consequence}
 use Rattle.step.specs.Meaning.{question_of, Step, step_of}
 use Rattle.log_form.specs.Format.{Log, log_bytes}
 use Rattle.log_writer.specs.Meaning.{run_for, log_of}

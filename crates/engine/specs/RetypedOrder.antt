@@ -6,7 +6,7 @@ use Rattle.book.specs.Orders.{order_c}
 use Rattle.problem.specs.Problem.{problem_of}
 use Rattle.consequence.specs.Meaning.{theory_of}
 use Rattle.consequence.specs.SameFillings.{fillings_within, fillings_agree}
-use Rattle.consequence.specs.Laws.SameFillings.{fillings_agree_lem}
+use Rattle.consequence.proofs.SameFillings.{fillings_agree_lem}
 use Rattle.engine.specs.Orders.{noon, read_and_posed}
 use Rattle.engine.specs.SameScreens.{Retyped}
 

@@ -1,3 +1,2 @@
 pub mod Meaning
 pub mod Promises
-pub mod Laws

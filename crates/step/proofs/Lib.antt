@@ -1,1 +1,4 @@
 pub mod Signed
+pub mod Steps
+pub mod LowerGoalFirst
+pub mod Theorems

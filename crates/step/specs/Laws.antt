@@ -8,7 +8,5 @@ pub mod Candidates
 pub mod Goals
 pub mod AllGoals
 pub mod TheStep
-pub mod Steps
 pub mod Unique
 pub mod SameFillings
-pub mod LowerGoalFirst

@@ -5,10 +5,8 @@ use Rattle.consequence.specs.Meaning.{Theory, contradicts, NoModelOf}
 use Rattle.consequence.specs.SameFillings.{SameChoices}
 use Rattle.step.specs.Meaning.{Question, asking, Step, nothing_left, step, step_of}
 use Rattle.step.specs.IsStep.{ForcedBy, Between, Sound, opposite_on, opposite_off, Goal, IsStep}
-use Rattle.step.specs.LowerGoalFirst.{ChangesExactly}
 use Rattle.step.specs.Laws.Given as given
 use Rattle.step.specs.Laws.Known as known-laws
-use Rattle.step.specs.Laws.LowerGoalFirst as lower-goal
 use Rattle.step.specs.Laws.SameFillings as fillings
 use Rattle.step.specs.Laws.TheStep as law
 use Rattle.step.specs.Laws.Unique as unique
@@ -52,10 +50,3 @@ module _ (t : Theory) (table : List (List ℕ)) (c facts known : LiteralSet) (fo
     pub some_step : (v : ℕ) (says : Bool) → Goal (asking t table c known) v says
         → (s : Step) × (step_of (asking t table c known) ≡ step s) × IsStep (asking t table c known) s
     some_step v says g = law.some_step (asking t table c known) between_sound v says g
-
-    -- ---- fewer reasons (E6)
-
-    -- From such a known set the step changes exactly where some candidate of least cost has fewer facts than the step of the order before E6, and both
-    -- cost the same.
-    pub changes_exactly : ChangesExactly (asking t table c known)
-    changes_exactly = lower-goal.changes_exactly (asking t table c known) between_sound

@@ -1,6 +1,6 @@
 -- `engine::search_model` meets its contract. Assumes nothing.
 use Rattle.std.proofs.Common.{refl, rules}
-use Rattle.first_model.specs.Laws.Searches.{searched_first, searched_no_first}
+use Rattle.first_model.proofs.Laws.Searches.{searched_first, searched_no_first}
 use Rattle.problem.proofs.SearchableLaws.{rules_laws}
 use Rattle.engine.proofs.search_model.Goals as goal
 

@@ -1,7 +1,7 @@
 -- `first_model::lowered` meets its contract. Assumes nothing.
 use Rattle.std.proofs.Common.{rules}
 use Rattle.sat.specs.Laws.Searches.{searched_model, searched_none}
-use Rattle.first_model.specs.Laws.Searches.{stays, found_lower, none_lower, lower_posed}
+use Rattle.first_model.proofs.Laws.Searches.{stays, found_lower, none_lower, lower_posed}
 use Rattle.first_model.proofs.lowered.Goals as goal
 
 pub returns-then-not-has : goal.returns-then-not-has

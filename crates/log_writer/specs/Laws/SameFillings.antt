@@ -10,7 +10,7 @@ use Rattle.problem.specs.Problem.{Problem, given}
 use Rattle.problem.specs.Proper.{ProperProblem}
 use Rattle.consequence.specs.Meaning.{Theory, has_model, consequence_of, theory_of}
 use Rattle.consequence.specs.SameFillings.{SameChoices, SameOverChoices}
-use Rattle.consequence.specs.Laws.SameFillings.{theories_same, given_same, same_has_model, same_consequence}
+use Rattle.consequence.proofs.SameFillings.{theories_same, given_same, same_has_model, same_consequence}
 use Rattle.step.specs.Meaning.{asking, question_of, Step, Answer, nothing_left, step, step_of, goals, yes_goals, no_goals}
 use Rattle.step.specs.IsStep.{ForcedBy, Sound}
 use Rattle.step.specs.Theorems.{same_step}

@@ -1,6 +1,6 @@
 -- `step::learn` meets its contract. Assumes nothing.
 use Rattle.std.proofs.Common.{rules}
-use Rattle.step.specs.Laws.Steps.{learn_laws}
+use Rattle.step.proofs.Steps.{learn_laws}
 use Rattle.step.proofs.learn.Goals as goal
 
 pub propagate-requires : goal.propagate-requires

@@ -1,6 +1,6 @@
 -- `step::next_step` meets its contract. Assumes nothing.
 use Rattle.std.proofs.Common.{rules}
-use Rattle.step.specs.Laws.Steps.{answer_laws}
+use Rattle.step.proofs.Steps.{answer_laws}
 use Rattle.step.proofs.next_step.Goals as goal
 
 pub returns-then-goals-eq0 : goal.returns-then-goals-eq0

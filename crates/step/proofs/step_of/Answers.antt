@@ -1,6 +1,6 @@
 -- `step::step_of` meets its contract. Assumes nothing.
 use Rattle.std.proofs.Common.{rules}
-use Rattle.step.specs.Laws.Steps.{step_laws}
+use Rattle.step.proofs.Steps.{step_laws}
 use Rattle.step.proofs.step_of.Goals as goal
 
 pub learn-new-requires : goal.learn-new-requires

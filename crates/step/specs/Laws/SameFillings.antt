@@ -12,7 +12,7 @@ use Rattle.literals.specs.declared.LiteralSet.{LiteralSet}
 use Rattle.propagation.specs.Promises.{digit}
 use Rattle.consequence.specs.Meaning.{Theory, ModelOf}
 use Rattle.consequence.specs.SameFillings.{SameChoices, SameForcing}
-use Rattle.consequence.specs.Laws.SameFillings.{choices_back, choice_there, same_forcing, forcing_back, same_none, same_digit}
+use Rattle.consequence.proofs.SameFillings.{choices_back, choice_there, same_forcing, forcing_back, same_none, same_digit}
 use Rattle.step.specs.Meaning.{asking, yes_goals, no_goals, goals, Candidate, Step, step, step_of}
 use Rattle.step.specs.IsStep.{Sound, opposite_on, opposite_off, Goal, Candidature, Upto, placed, New, IsStep}
 use Rattle.step.specs.Laws.Costs.{cost_width}

@@ -17,7 +17,7 @@ use Rattle.sat.specs.declared.SearchResult.{SearchResult}
 use Rattle.sat.specs.declared.SearchResult.TheVariants.{Found, Nothing}
 use Rattle.first_model.specs.Meaning.{weight, First}
 use Rattle.first_model.specs.Promises.{Fixed, FirstUpTo, FirstSearched}
-use Rattle.first_model.specs.Laws.Order.{weight_next, agree_weight, weight_agree, least_first}
+use Rattle.first_model.proofs.Laws.Order.{weight_next, agree_weight, weight_agree, least_first}
 
 -- ---- the values of m fixed
 

@@ -10,7 +10,7 @@ use Rattle.literals.specs.Laws.{and_both}
 use Rattle.sat.specs.Meaning.{some_filling}
 use Rattle.sat.specs.Laws.Fillings.{some_witness}
 use Rattle.first_model.specs.Meaning.{weight, comes_before, first_under, first_filling, First}
-use Rattle.first_model.specs.Laws.Order.{weight_agree, least_first}
+use Rattle.first_model.proofs.Laws.Order.{weight_agree, least_first}
 
 -- A filling of n variables that passes the test.
 pub record Passes (n : ℕ) (t : ℕ → Bool) (f : ℕ) : Type 0 where
