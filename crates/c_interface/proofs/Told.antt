@@ -35,7 +35,7 @@ use Rattle.engine.proofs.PosedLaws.{posed_numbers, posed_places}
 use Rattle.c_interface.specs.Seen.{code, number_in, place_in, Outcome, done, refusal, returned, behind, as_literals, by_verdict}
 use Rattle.c_interface.specs.Seen.{seen_imported, seen_model, seen_consequence, seen_step, seen_log}
 use Rattle.c_interface.specs.Calls.{StepSeen}
-use Rattle.c_interface.specs.Told.{Told, AllTold, GoalTold}
+use Rattle.c_interface.specs.Told.{Told, AllTold, ResumeTold, GoalTold}
 use Rattle.c_interface.specs.declared.StepShown.{StepShown}
 
 -- Done, or refused with a number that a byte has room for and is not 0, at a place of so many bytes or at their end.
@@ -141,7 +141,7 @@ dimacs_bounded s old =
         refusal_in range.0 range.1 w.placed
 
 pub all_told : (s : List ℕ) → AllTold s
-unfolding model_answer consequence_answer step_answer resumed_outcome
+unfolding model_answer consequence_answer step_answer
 all_told s = record {
   book = told (verdict_bounded s (read_book s) _ refl);
   costs = told (verdict_bounded s (read_book s) _ refl);
@@ -155,6 +155,12 @@ all_told s = record {
   step = λ moment on off. told (model_bounded (step_for (as_literals on off)) StepAnswer.Refused seen_step (λ n p. refl) (step_bounded (as_literals on off)) moment
       s (posed moment s) refl);
   log = λ moment old. told (log_bounded moment s (length old) (posed moment s) refl);
+}
+
+-- and of the call that carries a log on
+pub resume_told : (s : List ℕ) → ResumeTold s
+unfolding resumed_outcome
+resume_told s = record {
   resume = λ moment written old. told (resume_bounded written old _ (log_bounded moment s (length old) (posed moment s) refl));
 }
 

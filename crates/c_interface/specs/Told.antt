@@ -28,6 +28,9 @@ pub record AllTold (s : List ℕ) : Type 0 where
   pub consequence : (moment : Moment) → Told (length s) (seen_consequence (consequence_answer (posed moment s)))
   pub step : (moment : Moment) (known_on known_off : ℕ) → Told (length s) (seen_step (step_answer known_on known_off (posed moment s)))
   pub log : (moment : Moment) (old : List ℕ) → Told (length s) (seen_log (log_answer (log_outcome (length old) (posed moment s))))
+
+-- The same of the call that carries a log on.
+pub record ResumeTold (s : List ℕ) : Type 0 where
   pub resume : (moment : Moment) (written : ℕ) (old : List ℕ) → Told (length s) (seen_log (log_answer (resumed_outcome written old (posed moment s))))
 
 -- Where 0 is returned and the goal is 0, nothing is left: no step has the goal 0.

@@ -19,10 +19,14 @@ pub record AnswersAs (m : Read Problem) (s : List ℕ) (moment : Moment) : Type 
   pub consequence : {r : ConsequenceAnswer} → ConsequenceCall s moment r → r ≡ consequence_answer m
   pub next_step : {on off : ℕ} {r : StepAnswer} → StepCall s moment on off r → r ≡ step_answer on off m
   pub log : {before after : List ℕ} {r : LogAnswer} → LogCall s moment before after r → LoggedAs (log_outcome (length before) m) before after r
+
+-- The call that carries a log on (E8) answers at a moment as if the bytes posed m.
+pub record ResumesAs (m : Read Problem) (s : List ℕ) (moment : Moment) : Type 0 where
   pub resume_log : {written : ℕ} {before after : List ℕ} {r : LogAnswer} → ResumeCall s moment written before after r
       → LoggedAs (resumed_outcome written before m) before after r
 
--- At a moment that cannot be every call refuses with 14 at 0, whatever the bytes are, and leaves the buffer. `impossible_moment` shows it.
+-- At a moment that cannot be every call refuses with 14 at 0, whatever the bytes are, and leaves the buffer. `impossible_moment` shows it, and
+-- `impossible_resumed` the same of `resume_log` (`ResumesAs (refused 14 0)`).
 abbrev pub RefusesMoment : List ℕ → Moment → Type 0
 RefusesMoment s moment = AnswersAs (refused 14 0) s moment
 
@@ -42,6 +46,7 @@ all_rules b =
       costs = table b.costs;
     }
 
--- A book all of whose rules have no WN gives the same answers as before at every moment: those to the problem of all its rules. `as_before` shows it.
+-- A book all of whose rules have no WN gives the same answers as before at every moment: those to the problem of all its rules. `as_before` shows it, and
+-- `resumed_as_before` the same of `resume_log`.
 abbrev pub AnswersAsBefore : OrderBook → ℕ → List ℕ → Moment → Type 0
 AnswersAsBefore b end s moment = AnswersAs (value (all_rules b) end) s moment

@@ -13,7 +13,7 @@ pub shape_of-out-then-input-lt-MOMENT_SIZE : goal.shape_of-out-then-input-lt-MOM
 shape_of-out-then-input-lt-MOMENT_SIZE c = c.put_refusal.auto.out
 
 pub returns-then-input-lt-MOMENT_SIZE : goal.returns-then-input-lt-MOMENT_SIZE
-returns-then-input-lt-MOMENT_SIZE c = print_no_moment c.if-input-lt-MOMENT_SIZE.true c.if-out-lt-MAX_TEXT.false
+returns-then-input-lt-MOMENT_SIZE c = print_no_moment (omega (arith, c.if-input-lt-MOMENT_SIZE.true)) c.if-out-lt-MAX_TEXT.false
     c.put_refusal.ensures
 
 pub slice_bounds-log-end-2 : goal.slice_bounds-log-end-2
