@@ -115,15 +115,15 @@ module _ (moment : Moment) (s : List ℕ) {p : Problem} {end : ℕ} (e : posed m
   gives_eight {before} c l = let k = rw (e, lt-ltb (length before) max_log l, log_outcome) at c.said in (k.answered, k.buffer)
 
 -- one log into two buffers
-module _ {before after other-before other_After : List ℕ} {r o : LogAnswer} where
-  one_log : (p : Problem) → LoggedAs (log_or_nine p) before after r → LoggedAs (log_or_nine p) other-before other_After o
-      → EqualLogs before after r other-before other_After o ⊎ BothNine LogAnswer.Refused r o
+module _ {before after other_before other_after : List ℕ} {r o : LogAnswer} where
+  one_log : (p : Problem) → LoggedAs (log_or_nine p) before after r → LoggedAs (log_or_nine p) other_before other_after o
+      → EqualLogs before after r other_before other_after o ⊎ BothNine LogAnswer.Refused r o
   unfolding log_or_nine log_answer buffer_after
   one_log p = go (has_model p) (log_of (run_for p))
     where
       go : (h : Bool) (l : Log) → LoggedAs (cond h (logged l) (refused_with 9 0)) before after r
-          → LoggedAs (cond h (logged l) (refused_with 9 0)) other-before other_After o
-          → EqualLogs before after r other-before other_After o ⊎ BothNine LogAnswer.Refused r o
+          → LoggedAs (cond h (logged l) (refused_with 9 0)) other_before other_after o
+          → EqualLogs before after r other_before other_after o ⊎ BothNine LogAnswer.Refused r o
       go true l c d =
           inl (record {
             bytes = log_bytes l;

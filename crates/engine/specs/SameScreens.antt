@@ -57,26 +57,26 @@ abbrev pub BothNine : {A : Type 0} → (ℕ → ℕ → A) → A → A → Type 
 BothNine refuse r o = (r ≡ refuse 9 0) × (o ≡ refuse 9 0)
 
 -- Both calls write, and the logs are equal: length, steps, total and every byte. After its log each buffer is as it was.
-pub record EqualLogs (before after : List ℕ) (r : LogAnswer) (other-before other_After : List ℕ) (o : LogAnswer) : Type 0 where
+pub record EqualLogs (before after : List ℕ) (r : LogAnswer) (other_before other_after : List ℕ) (o : LogAnswer) : Type 0 where
   pub bytes : List ℕ
   pub steps : ℕ
   pub total : ℕ
   pub written : r ≡ LogAnswer.Written (length bytes) steps total
   pub other_written : o ≡ LogAnswer.Written (length bytes) steps total
   pub buffer : after ≡ bytes ++ drop (length bytes) before
-  pub other_buffer : other_After ≡ bytes ++ drop (length bytes) other-before
+  pub other_buffer : other_after ≡ bytes ++ drop (length bytes) other_before
 
 -- With buffers long enough the logs are equal, or both calls refuse with 9. A call with a short buffer gives 8, whatever the other does.
 pub record SameLogs (moment : Moment) (s t : List ℕ) : Type 0 where
-  pub equal : {before after other-before other_After : List ℕ} {r o : LogAnswer} → LogCall s moment before after r → LogCall t moment other-before other_After o
-      → max_log ≤ length before → max_log ≤ length other-before → EqualLogs before after r other-before other_After o ⊎ BothNine LogAnswer.Refused r o
+  pub equal : {before after other_before other_after : List ℕ} {r o : LogAnswer} → LogCall s moment before after r → LogCall t moment other_before other_after o
+      → max_log ≤ length before → max_log ≤ length other_before → EqualLogs before after r other_before other_after o ⊎ BothNine LogAnswer.Refused r o
   pub short : {before after : List ℕ} {r : LogAnswer} → LogCall s moment before after r → length before < max_log → (r ≡ LogAnswer.Refused 8 0) ×
       (after ≡ before)
   pub other_short : {before after : List ℕ} {o : LogAnswer} → LogCall t moment before after o → length before < max_log
       → (o ≡ LogAnswer.Refused 8 0) × (after ≡ before)
   -- where neither has a model, both give 9 if their buffers are long enough
-  pub nine : {before after other-before other_After : List ℕ} {r o : LogAnswer} → LogCall s moment before after r → LogCall t moment other-before other_After o
-      → max_log ≤ length before → max_log ≤ length other-before → NoModelIn (posed moment s) → NoModelIn (posed moment t) → BothNine LogAnswer.Refused r o
+  pub nine : {before after other_before other_after : List ℕ} {r o : LogAnswer} → LogCall s moment before after r → LogCall t moment other_before other_after o
+      → max_log ≤ length before → max_log ≤ length other_before → NoModelIn (posed moment s) → NoModelIn (posed moment t) → BothNine LogAnswer.Refused r o
 
 -- The choices of the problem that bytes pose.
 abbrev pub choices_in : Read Problem → ℕ

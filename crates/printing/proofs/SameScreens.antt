@@ -36,8 +36,8 @@ same_text {s} {t} x = record { equal = λ c d l k. both (puts c l) (puts d k) }
         rw (le-ltb (length s) moment_size x.whole, le-ltb (length t) moment_size x.other_whole, ← moment_same s t x.same_moment)
         (ap outcome_text (sym (outcomes_same x.books max_log max_log (omega arith) (omega arith))))
 
-    both : {before after other-before other_After : List ℕ} {r o : Printed}
+    both : {before after other_before other_after : List ℕ} {r o : Printed}
         → (r ≡ Printed.Text (length (text_of s))) × (after ≡ text_of s ++ drop (length (text_of s)) before)
-        → (o ≡ Printed.Text (length (text_of t))) × (other_After ≡ text_of t ++ drop (length (text_of t)) other-before)
-        → EqualTexts before after r other-before other_After o
+        → (o ≡ Printed.Text (length (text_of t))) × (other_after ≡ text_of t ++ drop (length (text_of t)) other_before)
+        → EqualTexts before after r other_before other_after o
     both c d = let e = rw text_same at d in record { text = text_of s; put = c.0; other_put = e.0; buffer = c.1; other_buffer = e.1 }

@@ -13,14 +13,14 @@ pub record RetypedInputs (s t : List ℕ) : Type 0 where
   pub books : Retyped (moment_at s) (drop moment_size s) (drop moment_size t)
 
 -- Both calls put the same text, each at the front of its buffer, which is after it as it was.
-pub record EqualTexts (before after : List ℕ) (r : Printed) (other-before other_After : List ℕ) (o : Printed) : Type 0 where
+pub record EqualTexts (before after : List ℕ) (r : Printed) (other_before other_after : List ℕ) (o : Printed) : Type 0 where
   pub text : List ℕ
   pub put : r ≡ Printed.Text (length text)
   pub other_put : o ≡ Printed.Text (length text)
   pub buffer : after ≡ text ++ drop (length text) before
-  pub other_buffer : other_After ≡ text ++ drop (length text) other-before
+  pub other_buffer : other_after ≡ text ++ drop (length text) other_before
 
 -- With buffers long enough for a text, the texts are equal: the log's lines, or the refusal's.
 pub record SameText (s t : List ℕ) : Type 0 where
-  pub equal : {before after other-before other_After : List ℕ} {r o : Printed} → PrintCall s before after r → PrintCall t other-before other_After o
-      → max_text ≤ length before → max_text ≤ length other-before → EqualTexts before after r other-before other_After o
+  pub equal : {before after other_before other_after : List ℕ} {r o : Printed} → PrintCall s before after r → PrintCall t other_before other_after o
+      → max_text ≤ length before → max_text ≤ length other_before → EqualTexts before after r other_before other_after o
