@@ -10,7 +10,7 @@ mod days;
 pub use days::{day_number, weekday};
 
 // A day of the calendar: the month and the day counted from 1.
-#[derive(Clone, Copy)]
+#[derive(Clone, Copy, Debug, PartialEq, Eq, PartialOrd, Ord)]
 pub struct Date {
     pub year: u16,
     pub month: u8,
@@ -18,7 +18,7 @@ pub struct Date {
 }
 
 // When a call is made: the day, and the minute of the day.
-#[derive(Clone, Copy)]
+#[derive(Clone, Copy, Debug, PartialEq, Eq)]
 pub struct Moment {
     pub date: Date,
     pub minute: u16,
@@ -26,7 +26,7 @@ pub struct Moment {
 
 // When a rule applies that has a WN record: from the first day on and before the end day, on the weekdays whose bits are set
 // (the lowest is Monday's), from the first minute of the day on and before the end minute.
-#[derive(Clone, Copy)]
+#[derive(Clone, Copy, Debug, PartialEq, Eq)]
 pub struct Window {
     pub first_day: Date,
     pub end_day: Date,
@@ -35,49 +35,35 @@ pub struct Window {
     pub end_minute: u16,
 }
 
-// When a rule applies: always where it has no WN record.
-#[derive(Clone, Copy)]
+// When a rule applies: always where it has no WN record. Not an `Option`, whose `None` would read as never.
+#[derive(Clone, Copy, Debug, Default, PartialEq, Eq)]
 pub enum Applies {
+    #[default]
     Always,
     During(Window),
 }
 
 // Whether a date can be: of 2000 to 2099, in a month of the year, on a day of the month.
+#[tactic(auto, unfolding(crate::specs::Calendar::is_date))]
 pub fn is_date(d: Date) -> bool
     ensures { result ≡ calendar.is_date d }
 {
-    if d.year < 2000 {
-        return false;
-    }
-    if d.year > 2099 {
-        return false;
-    }
-    if d.month < 1 {
-        return false;
-    }
-    if d.month > 12 {
-        return false;
-    }
-    if d.day < 1 {
-        return false;
-    }
-    d.day <= days::month_length(d.year, d.month as usize - 1)
+    (2000..=2099).contains(&d.year)
+        && (1..=12).contains(&d.month)
+        && 1 <= d.day
+        && d.day <= days::month_length(d.year, d.month as usize - 1)
 }
 
 // Whether the one date comes before the other.
+#[tactic(auto, unfolding(crate::specs::Calendar::earlier))]
 pub fn earlier(d: Date, e: Date) -> bool
     ensures { result ≡ calendar.earlier d e }
 {
-    if d.year != e.year {
-        return d.year < e.year;
-    }
-    if d.month != e.month {
-        return d.month < e.month;
-    }
-    d.day < e.day
+    d < e
 }
 
 // Whether a minute of a day can be.
+#[tactic(auto, unfolding(crate::specs::Windows::is_minute))]
 fn is_minute(n: u16) -> bool
     ensures { result ≡ windows.is_minute n }
 {
@@ -85,14 +71,11 @@ fn is_minute(n: u16) -> bool
 }
 
 // Whether a moment can be.
+#[tactic(auto, unfolding(crate::specs::Windows::is_moment))]
 pub fn is_moment(m: Moment) -> bool
     ensures { result ≡ windows.is_moment m }
 {
-    if is_date(m.date) {
-        is_minute(m.minute)
-    } else {
-        false
-    }
+    is_date(m.date) && is_minute(m.minute)
 }
 
 // Whether a window can be, checked from the left.
@@ -100,56 +83,34 @@ pub fn is_moment(m: Moment) -> bool
 pub fn is_window(w: Window) -> bool
     ensures { result ≡ windows.is_window w }
 {
-    if !is_date(w.first_day) {
-        return false;
-    }
-    if !is_date(w.end_day) {
-        return false;
-    }
-    if !earlier(w.first_day, w.end_day) {
-        return false;
-    }
-    if w.weekdays < 1 {
-        return false;
-    }
-    if w.weekdays > 127 {
-        return false;
-    }
-    if !is_minute(w.first_minute) {
-        return false;
-    }
-    if w.end_minute > 1440 {
-        return false;
-    }
-    w.first_minute < w.end_minute
+    is_date(w.first_day)
+        && is_date(w.end_day)
+        && earlier(w.first_day, w.end_day)
+        && (1..=127).contains(&w.weekdays)
+        && is_minute(w.first_minute)
+        && w.end_minute <= 1440
+        && w.first_minute < w.end_minute
 }
 
-// Whether a day is one of a window: from the first day on and before the end day.
-fn has_day(w: Window, d: Date) -> bool
-    ensures { result ≡ not (calendar.earlier d w.first_day) && calendar.earlier d w.end_day }
-{
-    if earlier(d, w.first_day) {
-        return false;
+impl Window {
+    // Whether a day is one of a window: from the first day on and before the end day.
+    fn has_day(self, d: Date) -> bool
+        ensures { result ≡ not (calendar.earlier d self.first_day) && calendar.earlier d self.end_day }
+    {
+        !earlier(d, self.first_day) && earlier(d, self.end_day)
     }
-    earlier(d, w.end_day)
-}
 
-// Whether a window is open at a moment, whose weekday is handed over so that it is worked out once for all rules.
-#[tactic(auto, using(crate::specs::Laws::Dates::weekday_bound), unfolding(crate::specs::Windows::is_open))]
-fn is_open(w: Window, m: Moment, weekday: u32) -> bool
-    requires { weekday ≡ calendar.weekday m.date }
-    ensures { result ≡ windows.is_open w m }
-{
-    if !has_day(w, m.date) {
-        return false;
+    // Whether a window is open at a moment, whose weekday is handed over so that it is worked out once for all rules.
+    #[tactic(auto, using(crate::specs::Laws::Dates::weekday_bound), unfolding(crate::specs::Windows::is_open))]
+    fn is_open(self, m: Moment, weekday: u32) -> bool
+        requires { weekday ≡ calendar.weekday m.date }
+        ensures { result ≡ windows.is_open self m }
+    {
+        self.has_day(m.date)
+            && sets::has(self.weekdays as u64, weekday)
+            && self.first_minute <= m.minute
+            && m.minute < self.end_minute
     }
-    if !sets::has(w.weekdays as u64, weekday) {
-        return false;
-    }
-    if m.minute < w.first_minute {
-        return false;
-    }
-    m.minute < w.end_minute
 }
 
 // Whether a rule is in force at a moment.
@@ -160,6 +121,6 @@ pub fn in_force(a: Applies, m: Moment, weekday: u32) -> bool
 {
     match a {
         Applies::Always => true,
-        Applies::During(w) => is_open(w, m, weekday),
+        Applies::During(w) => w.is_open(m, weekday),
     }
 }

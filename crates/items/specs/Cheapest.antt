@@ -1,6 +1,6 @@
 -- The cheapest set: the laws of a hitting-set search that goes depth first under a bound. It searches any sets of costed items, as masks of any
 -- number of bits, with any contradiction test `Con` and any key that does not fall from a set to a superset. Assumes nothing.
-use Rattle.std.specs.Prelude.{◌≡◌, refl, ◌⊎◌, ℕ, ◌≤◌, ◌<◌}
+use Rattle.std.specs.Prelude.{◌≡◌, refl, ◌⊎◌, ℕ, ◌≤◌, ◌<◌, Some, Option}
 use Rattle.std.proofs.Common.{sym, ap, ◌∙◌, inl, inr, arith}
 use Rattle.std.proofs.Math.Logic.{by_cases}
 use Rattle.std.proofs.Math.Decide.{ℕ_discrete}
@@ -164,6 +164,6 @@ hit_within {Con} {s} {top} {w} h =
 pub hit_stronger : {Con Other : ℕ → Type 0} {s top w : ℕ} → ((t : ℕ) → Within t top → Other t → Con t) → Hit Con s top w → Hit Other s top w
 hit_stronger implies h = record { apart = h.apart; meets = λ t p. h.meets t (interval_weaker implies p) }
 
--- Where the set w is not empty, it is a witness.
-pub record Witnessed (Con : ℕ → Type 0) (s top w : ℕ) : Type 0 where
-  pub hits : (w ≡ 0 → ⊥) → Hit Con s top w
+-- The set that is given, if one is, is a witness.
+pub record Witnessed (Con : ℕ → Type 0) (s top : ℕ) (given : Option ℕ) : Type 0 where
+  pub hits : (w : ℕ) → given ≡ Some w → Hit Con s top w

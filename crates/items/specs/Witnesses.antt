@@ -1,8 +1,6 @@
 -- Witnesses: sets of items that every contradicting set meets, and the pool that they come from. Assumes nothing.
-use Rattle.std.specs.Prelude.{◌≡◌, refl, ◌≢◌, ◌⊎◌, Bool, true, false, List, ℕ, ◌+◌, ◌≤◌, ◌<◌, length, get_or, set}
-use Rattle.std.proofs.Common.{sym, subst, inl, inr, arith, length-set, get_or-set_same, get_or-set_other}
-use Rattle.std.proofs.Math.Logic.{by_cases}
-use Rattle.std.proofs.Math.Decide.{ℕ_discrete}
+use Rattle.std.specs.Prelude.{◌≡◌, refl, ◌⊎◌, Bool, true, false, List, [], ℕ, ◌+◌, ◌≤◌, ◌<◌, length, get_or}
+use Rattle.std.proofs.Common.{sym, subst, inl, inr, arith}
 use Rattle.sets.specs.Sets.{bit, diff, disjoint, Within, Apart}
 use Rattle.sets.specs.Laws.Bits.{bit_le, bit_diff}
 use Rattle.sets.specs.Laws.Subset.{within_trans, disjoint_apart, disjoint_false}
@@ -36,45 +34,21 @@ witness_hit {all = all} s top x i a =
 
 -- ---- the pool
 
--- Each of the first `used` numbers of the pool has P.
-pub record Pool (P : ℕ → Type 0) (ms : List ℕ) (used : ℕ) : Type 0 where
-  pub room : used ≤ length ms
-  pub each : (i : ℕ) → i < used → P (get_or ms i 0)
+-- Each number of the pool has P.
+pub record Pool (P : ℕ → Type 0) (ms : List ℕ) : Type 0 where
+  pub each : (i : ℕ) → i < length ms → P (get_or ms i 0)
 
-pub pool_empty : {P : ℕ → Type 0} {ms : List ℕ} → Pool P ms 0
-pool_empty = record { room = omega arith; each = λ i h. absurd (omega arith) }
+pub pool_empty : {P : ℕ → Type 0} → Pool P []
+pool_empty = record { each = λ i h. absurd (omega arith) }
 
--- Each of the first r numbers of us is m or one of the first `used` numbers of ms.
-pub record Kept (ms : List ℕ) (used m : ℕ) (us : List ℕ) (r : ℕ) : Type 0 where
-  pub room : r ≤ length us
-  pub each : (i : ℕ) → i < r → (get_or us i 0 ≡ m) ⊎ ((i < used) × (get_or us i 0 ≡ get_or ms i 0))
+-- Each number of us is m or one of the numbers of ms.
+pub record Kept (ms : List ℕ) (m : ℕ) (us : List ℕ) : Type 0 where
+  pub each : (i : ℕ) → i < length us → (get_or us i 0 ≡ m) ⊎ ((i < length ms) × (get_or us i 0 ≡ get_or ms i 0))
 
 -- so the pool keeps what it has
-pub pool_kept : {P : ℕ → Type 0} {ms us : List ℕ} {used m r : ℕ} → Pool P ms used → P m → Kept ms used m us r → Pool P us r
-pool_kept {P} {ms} {us} {used} {m} x p k = record { room = k.room; each = λ i h. at i (k.each i h) }
+pub pool_kept : {P : ℕ → Type 0} {ms us : List ℕ} {m : ℕ} → Pool P ms → P m → Kept ms m us → Pool P us
+pool_kept {P} {ms} {us} {m} x p k = record { each = λ i h. at i (k.each i h) }
   where
-    at : (i : ℕ) → (get_or us i 0 ≡ m) ⊎ ((i < used) × (get_or us i 0 ≡ get_or ms i 0)) → P (get_or us i 0)
+    at : (i : ℕ) → (get_or us i 0 ≡ m) ⊎ ((i < length ms) × (get_or us i 0 ≡ get_or ms i 0)) → P (get_or us i 0)
     at i (inl e) = subst P (sym e) p
     at i (inr w) = subst P (sym w.1) (x.each i w.0)
-
--- a number is put behind the last of the pool, or over one of them
-at_set : (ms : List ℕ) (used m at i : ℕ) → at < length ms → (i ≢ at → i < used)
-    → (get_or (set ms at m) i 0 ≡ m) ⊎ ((i < used) × (get_or (set ms at m) i 0 ≡ get_or ms i 0))
-at_set ms used m at i h q =
-    by_cases (ℕ_discrete i at) (λ e. inl (rw e (get_or-set_same ms at m 0 h))) (λ e. inr (q e, get_or-set_other ms at i m 0 e))
-
-module _ {ms : List ℕ} {used : ℕ} (m : ℕ) where
-  pub kept_more : used < length ms → Kept ms used m (set ms used m) (used + 1)
-  kept_more h =
-      record {
-        room = omega (arith, length-set ms used m);
-        each = λ i l. at_set ms used m used i h (λ e. let ne : i ≡ used → ⊥ = e in omega arith);
-      }
-
-  pub kept_over : (at : ℕ) → used ≤ length ms → at < length ms → Kept ms used m (set ms at m) used
-  kept_over at r h = record { room = omega (arith, length-set ms at m); each = λ i l. at_set ms used m at i h (λ e. l) }
-
-  pub kept_same : used ≤ length ms → Kept ms used m ms used
-  kept_same r = record { room = r; each = λ i l. inr (l, refl) }
-
-pub ruleset kept_laws = (kept_more, kept_over, kept_same)

@@ -1,2 +1,1 @@
 mod WithLaws
-mod Signed

@@ -1,4 +1,5 @@
 pub mod Literal
 pub mod Truth
 pub mod WithLiteral
+pub mod LiteralSets
 pub mod Laws

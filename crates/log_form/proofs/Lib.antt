@@ -1,3 +1,4 @@
+pub mod BeginsLaws
 pub mod LeftLaws
 pub mod ListLaws
 pub mod RecordLaws

@@ -2,13 +2,11 @@
 -- Assumes nothing.
 use mathlib.Core.Path.{◌≡◌, refl, sym, ap, ap₂, ◌∙◌}
 use mathlib.Core.List.{List, [], ◌∷◌, ◌++◌, map, map-map, map-append, append_assoc, append-nil}
-use Prim.Native.Nat.{ℕ, suc, ◌+◌, ◌^◌, ◌≤◌, ◌<◌}
+use Prim.Native.Nat.{ℕ, suc, ◌+◌, ◌≤◌, ◌<◌}
 use native.Mathlib.Omega.{arith}
 use lib.ListN.{length, length-append, length-map}
-use Rattle.sets.specs.Sets.{has, union, count, members, remove, LeastMember, Lowest, width}
-use Rattle.sets.specs.Laws.Bits.{remove_lt}
-use Rattle.sets.specs.Laws.Count.{ones_remove}
-use Rattle.sets.specs.Laws.Members.{members_zero, members_below_lem, members_least}
+use Rattle.sets.specs.Sets.{has, union, count, members, remove, Lowest}
+use Rattle.sets.specs.Laws.Members.{members_zero, members_below_lem, members_next}
 use Rattle.literals.specs.Literal.{byte_of, literals_of, literal_of}
 use Rattle.log_form.specs.Format.{list_bytes}
 use Rattle.log_form.specs.Laws.Lists.{list_length_is, members_count}
@@ -25,11 +23,6 @@ pub list_length : (on off : ℕ) → length (list_bytes (literals_of on off)) �
 unfolding list_bytes
 list_length on off = ap suc (length-map (literals_of on off) byte_of ∙ list_length_is on off)
 
--- the least member, and the others
-least_first : (m v : ℕ) → m < 2 ^ width → LeastMember m v → members m ≡ v ∷ members (remove m v)
-least_first m v h l = sym (members_below_lem width m h) ∙ members_least width m v h l
-    ∙ ap (λ r. v ∷ r) (members_below_lem width (remove m v) (remove_lt width m v h))
-
 none_left : members 0 ≡ []
 none_left = sym (members_below_lem 0 0 (omega arith)) ∙ members_zero 0
 
@@ -39,30 +32,25 @@ module _ (out₀ : List ℕ) (start : ℕ) (f : ℕ → ℕ) (all : ℕ) where
     pub done : List ℕ
     pub split : members all ≡ done ++ members rest
     pub put : Put out₀ start (map f done) out i
-    pub below : rest < 2 ^ width
 
-  pub listing_none : all < 2 ^ width → Listing out₀ all start
-  listing_none h = record { done = []; split = refl; put = put_none out₀ start; below = h }
+  pub listing_none : Listing out₀ all start
+  listing_none = record { done = []; split = refl; put = put_none out₀ start }
 
   module _ {out : List ℕ} {rest i : ℕ} (w : Listing out rest i) {v : ℕ} (least : Lowest rest v) where
     next : members all ≡ w.done ++ (v ∷ members (remove rest v))
-    next = w.split ∙ ap (λ l. w.done ++ l) (least_first rest v w.below least.least)
+    next = w.split ∙ ap (λ l. w.done ++ l) (members_next rest v least.least)
 
     -- there is room for one more
     pub listing_room : start + length (members all) ≤ length out₀ → i < length out
     listing_room h =
         omega (arith, put_length _ w.put, w.put.place, length-map w.done f, ap length next, length-append w.done (v ∷ members (remove rest v)))
 
-    pub listing_more : {x next : ℕ} {more : List ℕ} → x ≡ f v → Put out i (x ∷ []) more next → Listing more (remove rest v) next
-    listing_more e p = record {
+    pub listing_more : {x next left : ℕ} {more : List ℕ} → x ≡ f v → Put out i (x ∷ []) more next → left ≡ remove rest v → Listing more left next
+    listing_more e p r = rw r (record {
       done = w.done ++ (v ∷ []);
       split = next ∙ sym (append_assoc w.done (v ∷ []) (members (remove rest v)));
       put = rw (map-append f w.done (v ∷ [])) (put_append (map f w.done) (f v ∷ []) w.put (rw e at p));
-      below = remove_lt width rest v w.below;
-    }
-
-    pub listing_less : count (remove rest v) < count rest
-    listing_less = omega (arith, ones_remove rest v least.least.member)
+    })
 
   pub listing_all : {out : List ℕ} {rest i : ℕ} → Listing out rest i → rest ≡ 0 → Put out₀ start (map f (members all)) out i
   listing_all w e =
@@ -81,3 +69,5 @@ module _ (a : List ℕ) (at on off : ℕ) (room : at + length (list_bytes (liter
 
   pub members_room : {b : List ℕ} {x k : ℕ} → Put a at (x ∷ []) b k → k + length (members (union on off)) ≤ length b
   members_room {x = x} p = omega (arith, list_length on off, members_count (union on off), p.place, put_length (x ∷ []) p)
+
+pub ruleset listing_laws = (listing_none, listing_room, listing_more, listing_all, listed, number_room, members_room, put_length)

@@ -2,12 +2,12 @@
 -- Assumes nothing.
 use mathlib.Core.Path.{◌≡◌, refl, sym, ap, ap₂, ◌∙◌}
 use mathlib.Core.List.{List, [], ◌∷◌, ◌++◌}
-use Prim.Native.Nat.{ℕ, suc, ◌+◌, ◌/◌, ◌%◌, ◌≤◌}
+use Prim.Native.Nat.{ℕ, zero, suc, ◌+◌, ◌≤◌, ◌<◌}
 use native.Mathlib.Nat.{add-zero, zero-add}
 use native.Mathlib.Omega.{arith}
-use lib.ListN.{length, set, drop, length-append}
-use lib.Seq.{sets, sets-eq, length-sets, take_at}
-use Rattle.log_form.specs.Format.{four_bytes}
+use native.Mathlib.Numerals.{add-one}
+use lib.ListN.{length, get_or, set, take, drop, length-append}
+use lib.Seq.{sets, sets-eq, length-sets, take_at, take-suc, length-take-le}
 use Rattle.log_form.specs.Promises.{Put}
 use Rattle.log_form.specs.Restarts.{written_up_to}
 
@@ -33,14 +33,24 @@ put_none a at = record { stored = refl; place = sym (add-zero at) }
 pub put_length : {a b : List ℕ} {at r : ℕ} (xs : List ℕ) → Put a at xs b r → length b ≡ length a
 put_length {a} xs p = rw p.stored (length-sets a _ xs)
 
--- two bytes, and four
-pub put_two : {a b c : List ℕ} {at k r x y : ℕ} → Put a at (x ∷ []) b k → Put b k (y ∷ []) c r → Put a at (x ∷ y ∷ []) c r
-put_two {x = x} {y} p q = put_append (x ∷ []) (y ∷ []) p q
+take_all : (i : ℕ) (xs : List ℕ) → length xs ≤ i → take i xs ≡ xs
+take_all zero [] h = refl
+take_all zero (x ∷ xs) h = absurd (omega arith)
+take_all (suc i) [] h = refl
+take_all (suc i) (x ∷ xs) h = ap (λ l. x ∷ l) (take_all i xs (omega arith))
 
-pub put_four : {a b c : List ℕ} {at k r : ℕ} (n : ℕ) → Put a at (n / 16777216 % 256 ∷ n / 65536 % 256 ∷ []) b k → Put b k (n / 256 % 256 ∷ n % 256 ∷ []) c r
-    → Put a at (four_bytes n) c r
-unfolding four_bytes
-put_four n p q = put_append (n / 16777216 % 256 ∷ n / 65536 % 256 ∷ []) (n / 256 % 256 ∷ n % 256 ∷ []) p q
+-- bytes of a part, one after the other: the first i of them are put
+module _ {a b : List ℕ} {at i k : ℕ} (xs : List ℕ) (p : Put a at (take i xs) b k) where
+  pub putting_room : i < length xs → at + length xs ≤ length a → k < length b
+  putting_room h room = omega (arith, p.place, put_length (take i xs) p, length-take-le i xs (omega arith))
+
+  pub putting_more : {c : List ℕ} {x r : ℕ} → i < length xs → x ≡ get_or xs i 0 → Put b k (x ∷ []) c r → Put a at (take (i + 1) xs) c r
+  putting_more {x = x} h e q = rw (add-one i, take-suc xs i 0 h, sym e) (put_append (take i xs) (x ∷ []) p q)
+
+  pub putting_all : length xs ≤ i → Put a at xs b k
+  putting_all h = rw (take_all i xs h) at p
+
+pub ruleset putting_laws = (put_none, putting_room, putting_more, putting_all, put_length)
 
 -- what is stored from the first byte on stands in front, and after it what was there
 pub put_whole : {a b : List ℕ} {r : ℕ} (xs : List ℕ) → Put a 0 xs b r → length xs ≤ length a → b ≡ xs ++ drop (length xs) a

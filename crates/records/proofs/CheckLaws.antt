@@ -1,6 +1,8 @@
 -- From a callee's answer back to what the bytes mean: what a record's checks came to, by the answer that the code matched on.
 -- Assumes nothing.
 use mathlib.Core.Path.{◌≡◌, refl}
+use Rattle.std.specs.Prelude.{Result, Ok, Err, IsErrAnd}
+use Rattle.std.proofs.lemmas.Result.{err_from_is_err_and}
 use mathlib.Core.Bool.{Bool, true, false}
 use mathlib.Core.List.{List}
 use Prim.Native.Nat.{ℕ, ◌≤◌, ◌<◌}
@@ -9,9 +11,9 @@ use borrow.Author.Tests.{le-leb, lt-leb, leb-true}
 use lib.Dec.{leb}
 use lib.ListN.{length}
 use Rattle.records.specs.Format.{RecordRead, says, fails, check, checked_first, opened, marked}
-use Rattle.records.specs.Promises.{check_answer}
-use Rattle.records.specs.declared.mark.Check.{Check}
-use Rattle.records.specs.declared.mark.Check.TheVariants.{Passes, Fails}
+use Rattle.records.specs.Refusals.{kind_of}
+use Rattle.records.specs.Promises.{record_answer, nothing}
+use Rattle.records.specs.declared.refusal.RefusalKind.{RefusalKind}
 
 -- A record that is whole: its bytes are there, and what it says is good.
 pub record Good {A : Type 0} (P : A → Type 0) (t : List ℕ) (a : A) (len : ℕ) : Type 0 where
@@ -50,22 +52,45 @@ opened_says mark size s {k} e =
     let d = check_says (leb size (length s)) 1 (says tt size) b.1 in
     (leb-true _ _ d.0, (says_same d.1).1)
 
-module _ (mark : List ℕ) (size : ℕ) (s : List ℕ) {r : Check} (e : r ≡ check_answer (opened mark size s)) where
-  pub opened_fails : {number : ℕ} → r ≡ Fails number → opened mark size s ≡ fails number
-  unfolding check_answer
-  opened_fails {number} f = go (opened mark size s) e
+-- what the exit of a `?` returns is the callee's error
+pub residual_err : {T E : Type 0} (r : Result T E) {k : E} {given : Result T E} → IsErrAnd r (λ y. y ≡ k) → Err k ≡ given → r ≡ given
+residual_err r h e = let p = err_from_is_err_and r h in rw (p.1, p.2) e
+
+module _ {A C : Type 0} (keep : A → ℕ → C) (o : RecordRead A) {r : Result C RefusalKind} (e : r ≡ record_answer keep o) where
+  -- an answer that fails is that of a check that fails
+  pub answered_err : {k : RefusalKind} → r ≡ Err k → (number : ℕ) × (o ≡ fails number) × (k ≡ kind_of number)
+  unfolding record_answer
+  answered_err {k} f = go o refl
     where
-      go : (o : RecordRead (Unit {0})) → r ≡ check_answer o → o ≡ fails number
+      go : (p : RecordRead A) → o ≡ p → (number : ℕ) × (o ≡ fails number) × (k ≡ kind_of number)
+      go (says a len) d = let z : ◌≡◌ {A = ℕ} 0 1 = cc in absurd (omega arith)
+      go (fails n) d = (n, d, cc)
+
+  -- an answer that is there is that of a record that says something
+  pub answered_ok : {c : C} → r ≡ Ok c → (a : A) × (len : ℕ) × (o ≡ says a len) × (c ≡ keep a len)
+  unfolding record_answer
+  answered_ok {c} f = go o refl
+    where
+      go : (p : RecordRead A) → o ≡ p → (a : A) × (len : ℕ) × (o ≡ says a len) × (c ≡ keep a len)
+      go (says a len) d = (a, len, d, cc)
+      go (fails n) d = let z : ◌≡◌ {A = ℕ} 0 1 = cc in absurd (omega arith)
+
+module _ {A B : Type 0} (mark : List ℕ) (size : ℕ) (s : List ℕ) (keep : A → ℕ → B) (rest : RecordRead A) {r : Result (Unit {0}) RefusalKind}
+    (e : r ≡ record_answer nothing (opened mark size s)) where
+  -- where the beginning of a record fails, so does the record
+  pub opened_err : {k : RefusalKind} → r ≡ Err k → Err k ≡ record_answer keep (checked_first (opened mark size s) rest)
+  unfolding record_answer
+  opened_err {k} f = go (opened mark size s) e
+    where
+      go : (o : RecordRead (Unit {0})) → r ≡ record_answer nothing o → Err k ≡ record_answer keep (checked_first o rest)
       go (says u len) h = let z : ◌≡◌ {A = ℕ} 0 1 = cc in absurd (omega arith)
-      go (fails n) h = cc
+      go (fails n) h = let same : k ≡ kind_of n = cc in rw same refl
 
-  pub opened_passes : r ≡ Passes → opened mark size s ≡ says tt size
-  unfolding check_answer
-  opened_passes f = go (opened mark size s) refl e
-    where
-      go : (o : RecordRead (Unit {0})) → opened mark size s ≡ o → r ≡ check_answer o → o ≡ says tt size
-      go (says tt k) d h = rw (opened_says mark size s d).1 refl
-      go (fails n) d h = let z : ◌≡◌ {A = ℕ} 0 1 = cc in absurd (omega arith)
+  -- where it passes, the rest decides
+  pub opened_ok : {u : Unit {0}} → r ≡ Ok u → record_answer keep (checked_first (opened mark size s) rest) ≡ record_answer keep rest
+  opened_ok f = let p = answered_ok nothing (opened mark size s) e f in rw p.2 refl
 
-  pub opened_within : r ≡ Passes → size ≤ length s
-  opened_within f = (opened_says mark size s (opened_passes f)).0
+-- where it passes, its bytes are there
+pub opened_within : (mark : List ℕ) (size : ℕ) (s : List ℕ) {r : Result (Unit {0}) RefusalKind} {u : Unit {0}} → r ≡ record_answer nothing (opened mark size s) → r ≡ Ok u
+    → size ≤ length s
+opened_within mark size s e f = let p = answered_ok nothing (opened mark size s) e f in (opened_says mark size s p.2).0

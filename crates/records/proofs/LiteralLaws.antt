@@ -1,7 +1,8 @@
 -- Reading literals: what one more changes in the two masks, and whether it rises; the literals of a rule, byte by byte.
 -- Assumes nothing.
-use mathlib.Core.Path.{◌≡◌, refl, sym, ap, ap₂, ◌∙◌}
-use mathlib.Core.Bool.{Bool, true, false, cond, ◌&&◌, and-false, false≢true}
+use mathlib.Core.Logic.{◌⊎◌, inl, inr}
+use mathlib.Core.Path.{◌≡◌, refl, sym, ap₂, ◌∙◌}
+use mathlib.Core.Bool.{Bool, true, false, ◌&&◌, and-false, false≢true}
 use mathlib.Core.List.{List, [], ◌∷◌, ◌++◌, map, map-append}
 use Prim.Native.Nat.{ℕ, ◌+◌, ◌≤◌, ◌<◌, zero-le}
 use native.Mathlib.Numerals.{add-one}
@@ -19,8 +20,7 @@ use Rattle.literals.specs.WithLiteral.{WithLiteral}
 use Rattle.literals.specs.Laws.{yes_mask_snoc, no_mask_snoc}
 use Rattle.literals.specs.declared.LiteralSet.{LiteralSet}
 use Rattle.records.specs.Format.{rising}
-use Rattle.records.specs.Promises.{literals_answer, masks}
-use Rattle.records.specs.declared.rules.LiteralsRead.{LiteralsRead}
+use Rattle.records.specs.Promises.{masks}
 
 -- a literal that fits a signed byte is the one that it is handed over as
 pub handed_byte : {z l : Literal} → SFits w8 z → z ≡ l → to_z w8 (of_z w8 z) ≡ l
@@ -100,35 +100,18 @@ module _ (n : ℕ) (s : List ℕ) where
         upto = omega arith;
       }
 
-      pub not_rising : v ≤ last → LiteralsRead.Fails ≡ literals_answer n (map of_byte s)
-      unfolding literals_answer
-      not_rising low = rw (g.risen, next_one, rising_low n last _ _ e low) refl
+      pub not_rising : v ≤ last → rising n 0 (map of_byte s) ≡ false
+      not_rising low = g.risen ∙ rw (next_one, rising_low n last _ _ e low) refl
 
-      pub too_high : n < v → LiteralsRead.Fails ≡ literals_answer n (map of_byte s)
-      unfolding literals_answer
-      too_high high = rw (g.risen, next_one, rising_high n last _ _ e high) refl
+      pub too_high : n < v → rising n 0 (map of_byte s) ≡ false
+      too_high high = g.risen ∙ rw (next_one, rising_high n last _ _ e high) refl
 
-  pub gathered_all : {set : LiteralSet} {last i : ℕ} → Gathered set last i → length s ≤ i → LiteralsRead.Says set ≡ literals_answer n (map of_byte s)
-  unfolding literals_answer
+      pub out_of_order : (v ≤ last) ⊎ ((last < v) × (n < v)) → rising n 0 (map of_byte s) ≡ false
+      out_of_order (inl low) = not_rising low
+      out_of_order (inr high) = too_high high.1
+
+  pub gathered_all : {set : LiteralSet} {last i : ℕ} → Gathered set last i → length s ≤ i → (rising n 0 (map of_byte s) ≡ true) × (set ≡ masks (map of_byte s))
   gathered_all {set} {last} {i} g h =
       let all : take i s ≡ s = take_all i s h in
       let end : drop i s ≡ [] = drop_of_length-le s h in
-      rw (g.risen, end, rising_none) (ap LiteralsRead.Says (rw all at g.kept))
-
--- the answer on a list of literals, taken back
-pub literals_fail : (n : ℕ) (ls : List Literal) {r : LiteralsRead} → r ≡ literals_answer n ls → r ≡ LiteralsRead.Fails → rising n 0 ls ≡ false
-unfolding literals_answer
-literals_fail n ls {r} e f = go (rising n 0 ls) e
-  where
-    go : (b : Bool) → r ≡ cond b (LiteralsRead.Says (masks ls)) LiteralsRead.Fails → b ≡ false
-    go false h = refl
-    go true h = let z : ◌≡◌ {A = ℕ} 0 1 = cc in absurd (omega arith)
-
-pub literals_say : (n : ℕ) (ls : List Literal) {r : LiteralsRead} {set : LiteralSet} → r ≡ literals_answer n ls → r ≡ LiteralsRead.Says set
-    → (rising n 0 ls ≡ true) × (set ≡ masks ls)
-unfolding literals_answer
-literals_say n ls {r} {set} e f = go (rising n 0 ls) e
-  where
-    go : (b : Bool) → r ≡ cond b (LiteralsRead.Says (masks ls)) LiteralsRead.Fails → (b ≡ true) × (set ≡ masks ls)
-    go false h = let z : ◌≡◌ {A = ℕ} 0 1 = cc in absurd (omega arith)
-    go true h = (refl, cc)
+      (g.risen ∙ rw (end, rising_none) refl, rw all at g.kept)

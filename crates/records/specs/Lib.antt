@@ -1,4 +1,5 @@
 pub mod Limits
 pub mod Numbers
 pub mod Format
+pub mod Refusals
 pub mod Promises

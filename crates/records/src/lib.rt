@@ -5,31 +5,34 @@ pub mod costs;
 pub mod facts;
 pub mod header;
 pub mod mark;
+pub mod refusal;
 pub mod rules;
 pub mod windows;
 
+use arrayvec::ArrayVec;
 use dates::Applies;
+use literals::LiteralSet;
 
-// When a rule applies, in a struct: a field cannot be an array of enums.
-#[derive(Clone, Copy)]
-pub struct RuleWindow {
+// A rule as it is kept: its literals as two masks, and when it applies.
+#[derive(Clone, Copy, Debug, Default, PartialEq, Eq)]
+pub struct Rule {
+    pub literals: LiteralSet,
     pub applies: Applies,
 }
 
-// A book as it is kept: the counts V, U and R, the rules as two parallel arrays of masks and their windows beside them, the
-// given facts as two masks.
-// Bit v - 1 of a mask stands for variable v: in `yes` where the rule has the literal v, in `no` where it has -v.
-#[derive(Clone, Copy)]
+// A book as it is kept: the counts V and U, the costs of the choices, the rules, and the given facts.
+// Bit v - 1 of a mask stands for variable v. A row of the costs is a choice's, its yes first; the rows after the last choice are 0.
+#[derive(Drop)]
 pub struct Book {
     pub variables: usize,
     pub choices: usize,
-    pub rules: usize,
-    pub yes: [u64; Book::MAX_RULES],
-    pub no: [u64; Book::MAX_RULES],
-    pub windows: [RuleWindow; Book::MAX_RULES],
-    pub facts_yes: u64,
-    pub facts_no: u64,
+    pub costs: [[u16; 2]; Book::MAX_CHOICES],
+    pub rules: ArrayVec<Rule, RULES>,
+    pub facts: LiteralSet,
 }
+
+// A capacity has to be a constant with a name of its own.
+const RULES: usize = Book::MAX_RULES;
 
 // The limits of a book, and of the log that is written for it.
 impl Book {

@@ -6,7 +6,12 @@ ghost use Rattle.std.specs.Prelude.{◌≡◌, ◌≤◌, ◌<◌};
 ghost use Rattle.sets.specs.Sets as set;
 ghost use Rattle.sets.specs.Sets.{width, Lowest, Counted};
 
+mod iter;
+
+pub use iter::{Iter, members};
+
 // Whether `v` is in `m`.
+#[tactic(auto, using(crate::specs::Laws::Code::shr_and_one), unfolding(crate::specs::Sets::has))]
 pub fn has(m: u64, v: u32) -> bool
     requires { v < width }
     ensures { result ≡ set.has m v }
@@ -52,6 +57,7 @@ pub fn difference(a: u64, b: u64) -> u64
 }
 
 // The elements below `n` that are not in `m`.
+#[tactic(auto, unfolding(crate::specs::Sets::compl))]
 pub fn complement(n: u32, m: u64) -> u64
     requires { n ≤ width }
     ensures { result ≡ set.compl n m }
@@ -60,6 +66,7 @@ pub fn complement(n: u32, m: u64) -> u64
 }
 
 // `m` with `v`.
+#[tactic(auto, unfolding(crate::specs::Sets::insert))]
 pub fn insert(m: u64, v: u32) -> u64
     requires { v < width }
     ensures { result ≡ set.insert m v }
@@ -68,6 +75,7 @@ pub fn insert(m: u64, v: u32) -> u64
 }
 
 // `m` without `v`.
+#[tactic(auto, unfolding(crate::specs::Sets::remove))]
 pub fn remove(m: u64, v: u32) -> u64
     requires { v < width }
     ensures { result ≡ set.remove m v }
@@ -76,6 +84,7 @@ pub fn remove(m: u64, v: u32) -> u64
 }
 
 // Whether each element of `a` is in `b`.
+#[tactic(auto, unfolding(crate::specs::Sets::subset))]
 pub fn subset(a: u64, b: u64) -> bool
     ensures { result ≡ set.subset a b }
 {

@@ -53,6 +53,11 @@ pub months_next : (y k : ℕ) → days_of_months y (k + 1) ≡ days_of_months y 
 unfolding days_of_months sum_below
 months_next y k = rw add-one refl
 
+-- No month has no days.
+pub months_none : (y : ℕ) → days_of_months y 0 ≡ 0
+unfolding days_of_months sum_below
+months_none y = refl
+
 -- More months have at least as many days.
 pub months_part : (y j k : ℕ) → j ≤ k → days_of_months y j ≤ days_of_months y k
 unfolding days_of_months
@@ -69,6 +74,15 @@ year_length y = omega arith
 pub year_bound : (y : ℕ) → days_of_months y 12 ≤ 366
 year_bound y = omega (arith, year_length y, leap_day (leap_year y))
 
+-- The months so far and one more have at most the days of a year.
+pub months_fit : (y k : ℕ) → k < 12 → days_of_months y k + month_length y k ≤ 366
+months_fit y k h = omega (arith, months_next y k, months_part y (k + 1) 12 (omega arith), year_bound y)
+
+-- No year has no days.
+pub years_none : days_of_years 0 ≡ 0
+unfolding days_of_years sum_below
+years_none = refl
+
 -- One year more adds its days.
 pub years_next : (k : ℕ) → days_of_years (k + 1) ≡ days_of_years k + days_of_months (2000 + k) 12
 unfolding days_of_years sum_below
@@ -83,3 +97,7 @@ years_part j k h = sum_part k j _ h
 pub hundred_years : days_of_years 100 ≡ 36525
 unfolding days_of_years days_of_months month_length month_lengths leap_year sum_below
 hundred_years = refl
+
+-- The years so far and one more have at most the days of a hundred.
+pub years_fit : (k : ℕ) → k < 100 → days_of_years k + days_of_months (2000 + k) 12 ≤ 36525
+years_fit k h = omega (arith, years_next k, years_part (k + 1) 100 (omega arith), hundred_years)

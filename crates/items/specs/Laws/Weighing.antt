@@ -195,8 +195,8 @@ module _ {ws : List ℕ} {s than : ℕ} where
 
 pub ruleset least_laws = (least_none, least_row, least_item)
 
-pub ruleset take_laws = (going_less, take_start, take_enough, take_row, take_more, take_all)
+pub ruleset take_laws = (take_start, take_enough, take_row)
 
-pub ruleset lighter_laws = (going_less, going_row, lighter_start, lighter_off, lighter_on, lighter_all)
+pub ruleset lighter_laws = (going_row, lighter_start, lighter_all)
 
-pub ruleset item_laws = (going_less, going_row, item_row, item_start, item_kept, item_other, item_all)
+pub ruleset item_laws = (going_row, item_row, item_start, item_all)

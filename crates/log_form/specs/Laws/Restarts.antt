@@ -116,3 +116,5 @@ module _ {log before bytes : List ℕ} {k : ℕ} (w : Writing log before bytes k
   unfolding written_up_to
   writing_whole h = let e : k ≡ length log = omega (arith, w.up_to) in
       record { stored = w.so_far ∙ rw (e, take-length log) refl }
+
+pub ruleset writing_laws = (writing_begun, writing_length, writing_set, writing_stands, writing_whole)

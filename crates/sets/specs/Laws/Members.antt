@@ -5,7 +5,11 @@ use mathlib.Core.List.Memᴰ
 use mathlib.Core.List.{List, [], ◌∷◌, Memᴰ}
 use Rattle.std.specs.Int.Count.{ones, ones_step}
 use Rattle.sets.specs.Sets.{bit, remove, keep, members_from, members_below, members, RisingFrom, StrictlyRising, LeastMember}
-use Rattle.sets.specs.Laws.Bits.{remove_zero_half, remove_zero_even, remove_suc_half, remove_suc_odd, lt_pow, member_lt}
+use Rattle.std.specs.Prelude.{Option, None, Some}
+use Rattle.std.specs.Iterator.{YieldsFirst}
+use Rattle.sets.specs.Iter.{TakesLowest}
+use Rattle.sets.specs.declared.iter.Iter.{Iter}
+use Rattle.sets.specs.Laws.Bits.{remove_zero_half, remove_zero_even, remove_suc_half, remove_suc_odd, remove_lt, lt_pow, member_lt}
 use Rattle.sets.specs.Laws.Least.{least_half}
 use Rattle.sets.specs.Laws.Count.{ones_zero}
 
@@ -154,6 +158,18 @@ pub members_least : (n m r : ℕ) → m < 2 ^ n → LeastMember m r → members_
 unfolding members_below
 members_least n m r h l =
     next_from n 0 m r h l ∙ ap (λ (x : ℕ). x ∷ members_from n 0 (remove m r)) (omega arith)
+
+-- the whole list likewise
+pub members_next : (m r : ℕ) → LeastMember m r → members m ≡ r ∷ members (remove m r)
+unfolding members
+members_next m r l =
+    members_least m m r (lt_pow m) l ∙ ap (λ x. r ∷ x) (members_below_lem m (remove m r) (remove_lt m m r (lt_pow m)))
+
+-- the calls of `sets::Iter` give the elements still to come in rising order, as the list has them, and then nothing
+pub takes_members : (it : Iter) (r : Option ℕ) (next : Iter) → TakesLowest it r next → YieldsFirst (λ i. members i.left) it r next
+unfolding members
+takes_members it None next t = (ap members t.0 ∙ members_zero 0, ap members t.1 ∙ members_zero 0)
+takes_members it (Some v) next t = members_next it.left v t.0.least ∙ ap (λ x. v ∷ members x) (sym t.1)
 
 -- a sparse mask computes
 members_example : members (2 ^ 20 + 5) ≡ 0 ∷ 2 ∷ 20 ∷ []

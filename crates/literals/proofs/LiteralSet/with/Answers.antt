@@ -5,21 +5,6 @@ use Rattle.literals.specs.Literal.{variable}
 use Rattle.literals.proofs.WithLaws.{with_literal}
 use Rattle.literals.proofs.LiteralSet.with.Goals as goal
 
-pub overflow_sub-v : goal.overflow_sub-v
-overflow_sub-v c =
-    let told : c.variable.result ≡ variable c.args.l = rw (to_z-of_z c.ranges.l) at c.variable.ensures in
-    omega (arith, told)
-
-pub insert-requires : goal.insert-requires
-insert-requires c =
-    let told : c.variable.result ≡ variable c.args.l = rw (to_z-of_z c.ranges.l) at c.variable.ensures in
-    omega (arith, told)
-
-pub insert-requires-else-l-gt0 : goal.insert-requires-else-l-gt0
-insert-requires-else-l-gt0 c =
-    let told : c.variable.result ≡ variable c.args.l = rw (to_z-of_z c.ranges.l) at c.variable.ensures in
-    omega (arith, told)
-
 pub returns-then-l-gt0 : goal.returns-then-l-gt0
 returns-then-l-gt0 c =
     let told : c.variable.result ≡ variable c.args.l = rw (to_z-of_z c.ranges.l) at c.variable.ensures in
