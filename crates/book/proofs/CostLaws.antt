@@ -1,26 +1,19 @@
--- Reading the costs: the answer of one CS record taken back, and what holds of one that is whole.
+-- Reading the costs: what holds of one CS record that is whole.
 -- Assumes nothing.
-use mathlib.Core.Path.{◌≡◌, refl, ap₂, ◌∙◌}
+use mathlib.Core.Path.{◌≡◌, refl, ◌∙◌}
 use mathlib.Core.Bool.{Bool, true, false, ◌&&◌, false≢true}
-use mathlib.Core.List.{List, [], ◌∷◌}
+use mathlib.Core.List.{List}
 use Prim.Native.Nat.{ℕ, ◌+◌, ◌≤◌}
 use native.Mathlib.Omega.{arith}
 use borrow.Author.Tests.{leb-true}
 use lib.Dec.{leb, eqb}
 use lib.ListN.{length, drop, length-drop}
 use Rattle.records.specs.Limits.{max_cost}
-use Rattle.records.specs.Format.{RecordRead, says, fails, value, refused, opened, byte, pair, is_cost, Cost, CS, cost_at, cost_values, cost_from}
-use Rattle.book.specs.Answer.{row}
-use Rattle.records.specs.Promises.{cost_answer}
-use Rattle.records.specs.declared.costs.CostRead.{CostRead}
+use Rattle.records.specs.Format.{says, fails, value, refused, opened, byte, pair, is_cost, Cost, CS, cost_at, cost_values, cost_from}
+use Rattle.records.specs.Promises.{row}
 use Rattle.records.proofs.CheckLaws.{Good, says_same, checked_first_says, check_says, opened_says}
-use Rattle.book.proofs.ManyLaws.{Whole, part_from, WholeFrom, begun, begun_refused}
+use Rattle.book.proofs.ManyLaws.{WholeFrom}
 use Rattle.book.proofs.ValueLaws.{GoodItem, begin_value}
-
-pub cost_fails : (m : RecordRead Cost) {r : CostRead} {number : ℕ} → r ≡ cost_answer m → r ≡ CostRead.Fails number → m ≡ fails number
-unfolding cost_answer
-cost_fails (says a len) e f = let z : ◌≡◌ {A = ℕ} 0 1 = cc in absurd (omega arith)
-cost_fails (fails n) e f = cc
 
 -- The costs of a choice are from 1 to `max_cost`.
 pub record GoodCost (c : Cost) : Type 0 where
@@ -54,31 +47,19 @@ cost_whole due t {c} {len} e =
       },
     )
 
--- the costs that the code has read
-pub cost_says : (due : ℕ) (t : List ℕ) {r : CostRead} {y n : ℕ} → r ≡ cost_answer (cost_at due t) → r ≡ CostRead.Says y n
-    → Whole (λ c. y ∷ n ∷ [] ≡ row c) t 7 (cost_at due t)
-unfolding cost_answer
-cost_says due t {r} {y} {n} e f = go (cost_at due t) refl e
-  where
-    go : (m : RecordRead Cost) → cost_at due t ≡ m → r ≡ cost_answer m → Whole (λ c. y ∷ n ∷ [] ≡ row c) t 7 m
-    go (says c k) d g =
-        let w = cost_whole due t d in
-        let p : y ≡ c.of_yes = cc in
-        let q : n ≡ c.of_no = cc in
-        record { item = c; said = rw w.0 refl; within = rw w.0 at w.1.within; holds = ap₂ (λ a b. a ∷ b ∷ []) p q }
-    go (fails n) d g = let z : ◌≡◌ {A = ℕ} 0 1 = cc in absurd (omega arith)
-
 -- ---- one CS, from a place on
 
 module _ (s : List ℕ) (due place : ℕ) where
-  pub cost_from_lem : {P : Cost → Type 0} → place ≤ length s → Whole P (part_from s place) 7 (cost_at due (part_from s place))
-      → WholeFrom P s (place + 7) (cost_from s due place)
+  pub cost_said : {c : Cost} {len : ℕ} {x : List ℕ} → place ≤ length s → cost_at due (drop place s) ≡ says c len → x ≡ row c
+      → WholeFrom (λ k. x ≡ row k) s (place + 7) (cost_from s due place)
   unfolding cost_from
-  cost_from_lem h w = begun (cost_at due) s place h w
+  cost_said {c} h e f =
+      let w = cost_whole due (drop place s) e in
+      record { item = c; said = rw (e, w.0) refl; within = omega (arith, h, w.0, w.1.within, length-drop place s); holds = f }
 
-  pub cost_refused : {number : ℕ} → cost_at due (part_from s place) ≡ fails number → cost_from s due place ≡ refused number place
+  pub cost_refused : {number : ℕ} → cost_at due (drop place s) ≡ fails number → cost_from s due place ≡ refused number place
   unfolding cost_from
-  cost_refused f = begun_refused (cost_at due) s place f
+  cost_refused f = rw f refl
 
   -- one that was read has 7 bytes
   pub cost_read : {c : Cost} {next : ℕ} → place ≤ length s → cost_from s due place ≡ value c next → (next ≡ place + 7) × GoodItem GoodCost s c next

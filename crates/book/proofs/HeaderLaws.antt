@@ -1,22 +1,13 @@
--- The header: its answer taken back, and what holds of one that is whole.
+-- The header: what holds of one that is whole.
 -- Assumes nothing.
-use mathlib.Core.Path.{◌≡◌, refl, sym, ◌∙◌}
+use mathlib.Core.Path.{◌≡◌}
 use mathlib.Core.List.{List}
 use Prim.Native.Nat.{ℕ, ◌≤◌}
-use native.Mathlib.Omega.{arith}
 use borrow.Author.Tests.{leb-true}
 use lib.Dec.{leb}
 use Rattle.records.specs.Limits.{max_variables, max_choices, max_rules}
-use Rattle.records.specs.Format.{RecordRead, says, fails, byte, opened, HD, Header, header_at, header_values}
-use Rattle.records.specs.Promises.{header_answer}
-use Rattle.book.specs.Promises.{header_of}
-use Rattle.records.specs.declared.header.HeaderRead.{HeaderRead}
+use Rattle.records.specs.Format.{says, byte, opened, HD, Header, header_at, header_values}
 use Rattle.records.proofs.CheckLaws.{Good, says_same, checked_first_says, check_says, opened_says}
-
-pub header_fails : (m : RecordRead Header) {r : HeaderRead} {number : ℕ} → r ≡ header_answer m → r ≡ HeaderRead.Fails number → m ≡ fails number
-unfolding header_answer
-header_fails (says h len) e f = let z : ◌≡◌ {A = ℕ} 0 1 = cc in absurd (omega arith)
-header_fails (fails n) e f = cc
 
 -- The counts of a header are within the limits.
 pub record GoodHeader (h : Header) : Type 0 where
@@ -46,23 +37,3 @@ header_whole s {h} {len} e =
         });
       },
     )
-
--- the header that the code has read
-pub record HeaderSaid (s : List ℕ) (v u n : ℕ) : Type 0 where
-  pub said : header_at s ≡ says (header_of v u n) 5
-  pub whole : Good GoodHeader s (header_of v u n) 5
-
-pub header_says : (s : List ℕ) {r : HeaderRead} {v u n : ℕ} → r ≡ header_answer (header_at s) → r ≡ HeaderRead.Says v u n → HeaderSaid s v u n
-unfolding header_answer
-header_says s {r} {v} {u} {n} e f = go (header_at s) refl e
-  where
-    go : (m : RecordRead Header) → header_at s ≡ m → r ≡ header_answer m → HeaderSaid s v u n
-    go (says h k) d g =
-        let w = header_whole s d in
-        let same : h ≡ header_of v u n = counts h.variables h.choices h.rules (sym g ∙ f) in
-        let five : k ≡ 5 = w.0 in
-        record { said = rw (same, five) at d; whole = rw (same, five) at w.1 }
-      where
-        counts : (a b c : ℕ) → HeaderRead.Says a b c ≡ HeaderRead.Says v u n → header_of a b c ≡ header_of v u n
-        counts a b c g = let p : a ≡ v = cc in let q : b ≡ u = cc in let w : c ≡ n = cc in rw (p, q, w) refl
-    go (fails n) d g = let z : ◌≡◌ {A = ℕ} 0 1 = cc in absurd (omega arith)

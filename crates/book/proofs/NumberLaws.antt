@@ -4,11 +4,14 @@ use mathlib.Core.Path.{◌≡◌, refl}
 use mathlib.Core.Logic.{◌⊎◌, inl, inr}
 use mathlib.Core.Bool.{Bool, true, false, cond, ◌&&◌, ◌||◌}
 use mathlib.Core.List.{List}
-use Prim.Native.Nat.{ℕ, zero, suc, ◌≤◌}
+use Prim.Native.Nat.{ℕ, zero, suc, ◌≤◌, ◌<◌}
 use native.Mathlib.Omega.{arith}
 use borrow.Author.Tests.{leb-true, eqb-true}
 use lib.Dec.{leb, eqb}
 use Rattle.literals.specs.Laws.{and_both}
+use Rattle.records.specs.Refusals as kind
+use Rattle.records.specs.Refusals.{kind_of}
+use Rattle.std.proofs.lemmas.Bool.{cases_eq}
 use Rattle.records.specs.Format.{RecordRead, says, fails, Read, value, refused, check, checked_first, begin, and_then, with_item, OrderBook, opened}
 use Rattle.records.specs.Format.{header_values, header_at, cost_values, cost_at, cost_from, rule_values, rule_at, window_values, window_at, window_from, rule_from}
 use Rattle.records.specs.Format.{fact_values, fact_at, end_at}
@@ -115,3 +118,24 @@ number_of {number = n} (refused_with_lem {number = k} l) e = let same : k ≡ n 
 
 pub reader_numbers : (s : List ℕ) {number place : ℕ} → read_book s ≡ refused number place → ReaderNumber number
 reader_numbers s e = number_of (book_numbered s) e
+
+-- ---- the check that has such a number
+
+-- The number of the check that has a number is that number.
+Named : ℕ → Type 0
+Named n = kind.number_of (kind_of n) ≡ n
+
+-- up to a number: that number, or below it
+up_to : (k n : ℕ) → Named k → (n < k → Named n) → n ≤ k → Named n
+up_to k n here below h = go (cases_eq n k)
+  where
+    go : (n ≡ k) ⊎ (n ≡ k → ⊥) → Named n
+    go (inl e) = rw e here
+    go (inr f) = below (omega (arith, h, f))
+
+pub reader_kinds : {n : ℕ} → ReaderNumber n → kind.number_of (kind_of n) ≡ n
+unfolding Named
+reader_kinds {n} (inl h) =
+    up_to 7 n refl (λ a. up_to 6 n refl (λ a. up_to 5 n refl (λ a. up_to 4 n refl (λ a. up_to 3 n refl (λ a. up_to 2 n refl (λ a. up_to 1 n refl (λ a. absurd (omega (arith, a, h.0)))
+    (omega arith)) (omega arith)) (omega arith)) (omega arith)) (omega arith)) (omega arith)) h.1
+reader_kinds {n} (inr e) = rw e refl

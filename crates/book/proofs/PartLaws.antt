@@ -10,8 +10,11 @@ use lib.Dec.{ltb}
 use lib.ListN.{length}
 use Rattle.records.specs.Format.{Read, value, refused, and_then, OrderBook, header_at, cost_from, rule_from, many, facts_from, from_rules, read_book}
 use Rattle.book.specs.Answer.{book_answer, masked_book}
-use Rattle.book.specs.declared.Reading.{Reading}
-use Rattle.book.specs.declared.Verdict.TheVariants as Verdict
+use Rattle.std.specs.Prelude.{Ok, Err}
+use Rattle.records.specs.Refusals.{refusal_of}
+use Rattle.records.specs.declared.Book.{Book}
+use Rattle.records.specs.declared.refusal.Refusal.{Refusal}
+use Rattle.records.proofs.ReadLaws.{then_fails, then_ok}
 use Rattle.records.proofs.CheckLaws.{Good}
 use Rattle.book.proofs.HeaderLaws.{GoodHeader, header_whole}
 use Rattle.book.proofs.ValueLaws.{begin_value, then_value}
@@ -54,19 +57,17 @@ parts s e =
 
 -- ---- the reader's answer, taken back
 
-pub record BookSaid (m : Read OrderBook) (r : Reading) : Type 0 where
+pub record BookSaid (m : Read OrderBook) (k : Book) : Type 0 where
   pub book : OrderBook
   pub end : ℕ
   pub said : m ≡ value book end
-  pub keeps : r.book ≡ masked_book book
+  pub keeps : k ≡ masked_book book
 
-pub book_says : (m : Read OrderBook) {r : Reading} → r ≡ book_answer m → r.verdict ≡ Verdict.Accepted → BookSaid m r
+pub book_says : (m : Read OrderBook) {k : Book} → Ok k ≡ book_answer m → BookSaid m k
 unfolding book_answer
-book_says (value b end) e f = record { book = b; end = end; said = refl; keeps = cc }
-book_says (refused n p) e f = let z : ◌≡◌ {A = ℕ} 0 1 = cc in absurd (omega arith)
+book_says m e = let p = then_ok (λ b end. masked_book b) m e in record { book = p.0; end = p.1; said = p.2; keeps = p.3 }
 
-pub book_refused : (m : Read OrderBook) {r : Reading} {number place : ℕ} → r ≡ book_answer m → r.verdict ≡ Verdict.Refused number place
-    → m ≡ refused number place
+pub book_refused : (m : Read OrderBook) {d : Refusal} → Err d ≡ book_answer m
+    → (number : ℕ) × (place : ℕ) × (m ≡ refused number place) × (d ≡ refusal_of number place)
 unfolding book_answer
-book_refused (value b end) e f = let z : ◌≡◌ {A = ℕ} 0 1 = cc in absurd (omega arith)
-book_refused (refused n p) e f = cc
+book_refused m e = then_fails (λ b end. masked_book b) m e

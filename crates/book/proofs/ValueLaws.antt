@@ -5,7 +5,8 @@ use mathlib.Core.List.{List, [], ◌∷◌}
 use Prim.Native.Nat.{ℕ, zero, suc, ◌+◌, ◌≤◌}
 use native.Mathlib.Omega.{arith}
 use lib.ListN.{length}
-use Rattle.records.specs.Format.{RecordRead, says, fails, Read, value, refused, begin, and_then, with_item, many}
+pub use Rattle.records.proofs.RowLaws.{then_value, item_value, Each}
+use Rattle.records.specs.Format.{RecordRead, says, fails, Read, value, begin, and_then, with_item, many}
 
 module _ {A B : Type 0} where
   pub begin_value : (place : ℕ) (r : RecordRead A) (next : A → ℕ → Read B) {b : B} {end : ℕ} → begin place r next ≡ value b end
@@ -13,17 +14,7 @@ module _ {A B : Type 0} where
   begin_value place (says a len) next e = (a, len, refl, e)
   begin_value place (fails n) next e = let z : ◌≡◌ {A = ℕ} 0 1 = cc in absurd (omega arith)
 
-  pub then_value : (m : Read A) (next : A → ℕ → Read B) {b : B} {end : ℕ} → and_then m next ≡ value b end
-      → (a : A) × (place : ℕ) × (m ≡ value a place) × (next a place ≡ value b end)
-  then_value (value a place) next e = (a, place, refl, e)
-  then_value (refused n place) next e = let z : ◌≡◌ {A = ℕ} 0 1 = cc in absurd (omega arith)
-
 module _ {A : Type 0} where
-  pub item_value : (a : A) (m : Read (List A)) {items : List A} {end : ℕ} → with_item a m ≡ value items end
-      → (rest : List A) × (m ≡ value rest end) × (a ∷ rest ≡ items)
-  item_value a (value rest p) e = (rest, cc, cc)
-  item_value a (refused n p) e = let z : ◌≡◌ {A = ℕ} 0 1 = cc in absurd (omega arith)
-
   pub record FirstOf (place : ℕ) (r : RecordRead A) (after : A → ℕ → Read (List A)) (items : List A) (end : ℕ) : Type 0 where
     pub item : A
     pub len : ℕ
@@ -55,11 +46,6 @@ module _ {A : Type 0} where
       let f = then_value r (λ a next. with_item a (after a next)) e in
       let m = item_value f.0 (after f.0 f.1) f.3 in
       record { item = f.0; next = f.1; rest = m.0; said = f.2; others = m.1; all = m.2 }
-
-  -- Each item of a list has a property.
-  abbrev pub Each : (A → Type 0) → List A → Type 0
-  Each P [] = Unit {0}
-  Each P (a ∷ rest) = P a × Each P rest
 
 -- As many items as were to be read, each good, and the place after them within the bytes.
 pub record AllGood {A : Type 0} (s : List ℕ) (P : A → Type 0) (left : ℕ) (items : List A) (end : ℕ) : Type 0 where

@@ -1,4 +1,3 @@
 pub mod Answer
-pub mod Promises
 pub mod Orders
 pub mod Readings

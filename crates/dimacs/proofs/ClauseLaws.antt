@@ -5,26 +5,25 @@ use mathlib.Core.Bool.{Bool, true, false, cond, ◌||◌}
 use mathlib.Core.List.{List, []}
 use Prim.Native.Nat.{ℕ, zero, suc, ◌+◌, ◌≤◌, ◌<◌}
 use native.Mathlib.Omega.{arith}
-use borrow.Author.Tests.{eq-eqb, ne_eqb}
+use borrow.Author.Tests.{ne_eqb}
 use lib.Dec.{leb, eqb}
-use lib.IntN.{pos}
-use lib.ListN.{length, take, drop}
+use lib.IntN.{pos, negsuc}
 use mir.Syntax.{w8}
-use mir.Val.{to_z, of_z}
+use mir.Val.{SFits, to_z, of_z}
+use mir.Facts.{to_z-of_z}
+use Rattle.std.specs.Prelude.{Ok}
+use lib.ListN.{length, take, drop}
 use Rattle.literals.specs.Literal.{Literal, variable}
-use Rattle.literals.specs.declared.LiteralSet.{LiteralSet}
-use Rattle.records.specs.Limits.{max_variables, max_literals}
+use Rattle.records.specs.Limits.{max_literals}
 use Rattle.records.specs.Format.{Read, value, refused, and_then, with_item}
-use Rattle.records.specs.Promises.{masks}
-use Rattle.book.proofs.FactLaws.{handed}
-use Rattle.book.proofs.ValueLaws.{then_value}
+use Rattle.records.specs.Promises.{masks, read_answer}
+use Rattle.records.proofs.RowLaws.{then_value}
 use Rattle.dimacs.specs.Text.{is, is_gap, is_digit, is_first_digit, run, numeral, opposite, is_dropped, rule_of, stands, after, one_or_more, number}
 use Rattle.dimacs.specs.Text.{number_up_to, signed, next_signed, literals_from, clause_from}
-use Rattle.dimacs.specs.Promises.{literal_answer, clause_answer, clashes, allowed}
-use Rattle.dimacs.specs.declared.numbers.LiteralRead.{LiteralRead}
-use Rattle.dimacs.specs.declared.clauses.ClauseRead.{ClauseRead}
+use Rattle.dimacs.specs.Promises.{clause_read, clashes, allowed}
+use Rattle.dimacs.specs.declared.clauses.Clause.{Clause}
 use Rattle.dimacs.proofs.ByteLaws.{stands_within, after_more, after_from, after_within}
-use Rattle.dimacs.proofs.ReadLaws.{literal_refused, literal_says, clause_refused, clause_says}
+use Rattle.dimacs.proofs.ReadLaws.{clause_ok}
 use Rattle.dimacs.proofs.SignedLaws.{up_to_most}
 
 -- ---- what is read lies within the text
@@ -157,29 +156,33 @@ module _ (s : List ℕ) (v : ℕ) where
   abbrev pub literals_left : ℕ → Read (List Literal)
   literals_left place = literals_from s v (suc (length s)) place
 
-  module _ (place : ℕ) {r : LiteralRead} (e : r ≡ literal_answer (next_signed s v place)) where
-    pub literals_wrong : {n p : ℕ} → r ≡ LiteralRead.Refused n p → literals_left place ≡ refused n p
+  module _ (place : ℕ) where
+    pub literals_wrong : {n p : ℕ} → next_signed s v place ≡ refused n p → literals_left place ≡ refused n p
     unfolding literals_from
-    literals_wrong f = rw (literal_refused (next_signed s v place) e f) refl
+    literals_wrong f = rw f refl
 
-    pub literal_read : {l : Literal} {next : ℕ} → r ≡ LiteralRead.Says l next → next_signed s v place ≡ value l next
-    literal_read f = literal_says (next_signed s v place) e f
+    module _ {l : Literal} {next : ℕ} (f : next_signed s v place ≡ value l next) where
+      pub literals_closed : l ≡ pos 0 → literals_left place ≡ value [] next
+      unfolding literals_from variable
+      literals_closed h = rw (f, h) refl
 
-    module _ {l : Literal} {next : ℕ} (f : r ≡ LiteralRead.Says l next) where
-      pub literals_closed : variable l ≡ 0 → literals_left place ≡ value [] next
-      unfolding literals_from
-      literals_closed h = rw (literal_read f, eq-eqb (variable l) 0 h) refl
-
-      pub literals_more : (variable l ≡ 0 → ⊥) → literals_left place ≡ with_item l (literals_left next)
+      pub literals_more : 0 < variable l → literals_left place ≡ with_item l (literals_left next)
       unfolding literals_from
       literals_more h =
-          let w = (next_numbered s v place (literal_read f)).further in
-          rw (literal_read f, ne_eqb (variable l) 0 h)
+          let w = (next_numbered s v place f).further in
+          rw (f, ne_eqb (variable l) 0 (λ z. omega arith))
           (ap (with_item l) (sym (literals_enough (length s) next w.within (omega (arith, w.onward)))))
 
-    -- a literal is the signed byte that it is handed over as
-    pub literal_handed : {l : Literal} {next : ℕ} → r ≡ LiteralRead.Says l next → v ≤ max_variables → to_z w8 (of_z w8 l) ≡ l
-    literal_handed {l} f h = handed l (omega (arith, (next_numbered s v place (literal_read f)).over))
+-- a literal is 0, as the code tests it
+pub zero_literal : (l : Literal) → SFits w8 l → of_z w8 l ≡ 0 → l ≡ pos 0
+zero_literal l fits e = sym (to_z-of_z {w = w8} fits) ∙ ap (λ n. to_z w8 n) e
+
+-- one that is not 0 has a variable
+pub above_zero : (l : Literal) → (of_z w8 l ≡ 0 → ⊥) → 0 < variable l
+unfolding variable
+above_zero (pos zero) h = absurd (h refl)
+above_zero (pos (suc n)) h = omega arith
+above_zero (negsuc n) h = omega arith
 
 -- ---- a clause as two masks
 
@@ -187,26 +190,22 @@ pub dropped_masks : (c : List Literal) → clashes (masks c) ≡ is_dropped c
 unfolding clashes is_dropped
 dropped_masks c = refl
 
-pub allowed_masks : (c : List Literal) → allowed (masks c) ≡ is_dropped c || leb (length (rule_of c)) max_literals
+allowed_masks : (c : List Literal) → allowed (masks c) ≡ is_dropped c || leb (length (rule_of c)) max_literals
 unfolding allowed clashes is_dropped rule_of
 allowed_masks c = refl
 
-module _ (s : List ℕ) (v place : ℕ) {r : ClauseRead} (e : r ≡ clause_answer (literals_from s v (suc (length s)) place)) where
-  pub judged_wrong : {n p : ℕ} → r ≡ ClauseRead.Refused n p → clause_from s v place ≡ refused n p
+module _ (s : List ℕ) (v place : ℕ) {read : Clause} (e : Ok read ≡ read_answer clause_read (literals_from s v (suc (length s)) place)) {b : Bool}
+    (a : b ≡ allowed read.set) where
+  pub judged_large : b ≡ false → clause_from s v place ≡ refused 13 (after s is_gap place)
   unfolding clause_from
-  judged_wrong f = rw (clause_refused (literals_from s v (suc (length s)) place) e f) refl
+  judged_large h =
+      let k = clause_ok _ e in
+      let fails : is_dropped k.0 || leb (length (rule_of k.0)) max_literals ≡ false = sym (allowed_masks k.0) ∙ ap allowed (sym k.2) ∙ sym a ∙ h in
+      rw (k.1, fails) refl
 
-  module _ {set : LiteralSet} {next : ℕ} (f : r ≡ ClauseRead.Says set next) {b : Bool} (a : b ≡ allowed set) where
-    pub judged_large : b ≡ false → clause_from s v place ≡ refused 13 (after s is_gap place)
-    unfolding clause_from
-    judged_large h =
-        let k = clause_says (literals_from s v (suc (length s)) place) e f in
-        let fails : is_dropped k.0 || leb (length (rule_of k.0)) max_literals ≡ false = sym (allowed_masks k.0) ∙ ap allowed (sym k.2) ∙ sym a ∙ h in
-        rw (k.1, fails) refl
-
-    pub judged_fine : b ≡ true → clause_answer (clause_from s v place) ≡ ClauseRead.Says set next
-    unfolding clause_from clause_answer
-    judged_fine h =
-        let k = clause_says (literals_from s v (suc (length s)) place) e f in
-        let passes : is_dropped k.0 || leb (length (rule_of k.0)) max_literals ≡ true = sym (allowed_masks k.0) ∙ ap allowed (sym k.2) ∙ sym a ∙ h in
-        rw (k.1, passes) (ap (λ t. ClauseRead.Says t next) (sym k.2))
+  pub judged_fine : b ≡ true → read_answer clause_read (clause_from s v place) ≡ Ok read
+  unfolding clause_from read_answer
+  judged_fine h =
+      let k = clause_ok _ e in
+      let passes : is_dropped k.0 || leb (length (rule_of k.0)) max_literals ≡ true = sym (allowed_masks k.0) ∙ ap allowed (sym k.2) ∙ sym a ∙ h in
+      rw (k.1, passes) (ap (λ t. Ok (record { set = t; next = read.next })) (sym k.2))

@@ -10,7 +10,7 @@ use lib.ListN.{length}
 use Rattle.literals.specs.Literal.{Literal, variable}
 use Rattle.records.specs.Limits.{max_variables, max_rules, max_literals}
 use Rattle.records.specs.Format.{value, refused, with_item}
-use Rattle.book.proofs.ValueLaws.{Each, then_value, item_value}
+use Rattle.records.proofs.RowLaws.{Each, then_value, item_value}
 use Rattle.dimacs.specs.Text.{Formula, Counts, is_dropped, rule_of, is_blank, is_gap, P, CNF}
 use Rattle.dimacs.specs.Text.{limited, next_signed, literals_from, clause_from, clauses_from, text_ends, after}
 use Rattle.dimacs.specs.Text.{one_or_more, comments, word_and_blanks, count_from, counts_from, head_of, body_from, formula_of}

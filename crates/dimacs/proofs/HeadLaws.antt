@@ -10,11 +10,8 @@ use borrow.Author.Tests.{lt-ltb, le-ltb, ltb-true}
 use lib.Dec.{ltb}
 use lib.ListN.{length}
 use Rattle.records.specs.Format.{Read, value, refused, and_then}
-use Rattle.book.specs.Promises.{place_answer}
-use Rattle.book.specs.declared.PlaceAfter.{PlaceAfter}
-use Rattle.dimacs.specs.Text.{is, is_blank, is_line_end, stands, after, one_or_more, word, line, comments, word_and_blanks}
+use Rattle.dimacs.specs.Text.{is, is_line_end, stands, after, line, comments}
 use Rattle.dimacs.proofs.ByteLaws.{after_from}
-use Rattle.dimacs.proofs.ReadLaws.{place_refused, place_at}
 
 -- The end of the line at a place.
 abbrev pub line_end : List ℕ → ℕ → ℕ
@@ -67,9 +64,6 @@ module _ (s : List ℕ) where
     pub left : comments_left 0 ≡ comments_left place
     pub upto : place ≤ length s
 
-  pub skipped_none : Skipped 0
-  skipped_none = record { left = refl; upto = omega arith }
-
   module _ {place : ℕ} (g : Skipped place) where
     pub skipped_all : stands s (is 0x63) place ≡ false → comments_left 0 ≡ value tt place
     unfolding comments
@@ -85,14 +79,3 @@ module _ (s : List ℕ) where
       skipped_more {u} {next} f =
           let w = line_next s place f in
           record { left = g.left ∙ rw (e, f) (sym (comments_enough (length s) next w.1 (omega (arith, w.0)))); upto = w.1 }
-
--- ---- a word, and blanks
-
-module _ (s w : List ℕ) (from : ℕ) {r : PlaceAfter} (e : r ≡ place_answer (word s w from)) where
-  pub word_wrong : {number place : ℕ} → r ≡ PlaceAfter.Refused number place → word_and_blanks s w from ≡ refused number place
-  unfolding word_and_blanks
-  word_wrong f = rw (place_refused (word s w from) e f) refl
-
-  pub word_passed : {place : ℕ} → r ≡ PlaceAfter.At place → word_and_blanks s w from ≡ one_or_more s is_blank place
-  unfolding word_and_blanks
-  word_passed f = rw (place_at (word s w from) e f).1 refl

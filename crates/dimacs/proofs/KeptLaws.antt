@@ -1,23 +1,23 @@
--- The clauses in a row, and the arrays that the kept ones go into.
+-- The clauses in a row, and the masks of the kept ones.
 -- Assumes nothing.
 use mathlib.Core.Path.{◌≡◌, refl, sym, ap, ◌∙◌}
 use mathlib.Core.Bool.{Bool, true, false, cond}
-use mathlib.Core.List.{List, [], ◌∷◌, ◌++◌}
+use mathlib.Core.List.{List, [], ◌∷◌, ◌++◌, map-append}
+use Rattle.std.specs.Prelude.{Ok}
 use Prim.Native.Nat.{ℕ, suc, ◌+◌, ◌-◌, ◌≤◌, ◌<◌}
 use native.Mathlib.Nat.{sub-zero}
 use native.Mathlib.Omega.{arith}
-use lib.ListN.{length, set, replicate, length-append}
+use lib.ListN.{length, length-append, length-map}
 use Rattle.literals.specs.Literal.{Literal}
-use Rattle.literals.specs.Truth.{yes_mask, no_mask}
 use Rattle.literals.specs.declared.LiteralSet.{LiteralSet}
-use Rattle.records.specs.Limits.{max_rules}
 use Rattle.records.specs.Format.{Read, value, refused, with_item}
-use Rattle.records.specs.Promises.{masks}
-use Rattle.book.proofs.ManyLaws.{SoFar, so_far_none, so_far_more, so_far_refused, so_far_all}
-use Rattle.book.proofs.PaddedLaws.{Filled, filled_none, filled_more}
+use Rattle.records.specs.Promises.{masks, read_answer}
+use Rattle.records.proofs.RowLaws.{SoFar, so_far_none, so_far_more, so_far_refused, so_far_all}
 use Rattle.dimacs.specs.Text.{is_dropped, clause_from, clauses_from}
 use Rattle.dimacs.specs.Import.{kept_of}
-use Rattle.dimacs.specs.Promises.{clashes}
+use Rattle.dimacs.specs.Promises.{clause_read, kept_masks, clashes}
+use Rattle.dimacs.specs.declared.clauses.Clause.{Clause}
+use Rattle.dimacs.proofs.ReadLaws.{clause_ok}
 use Rattle.dimacs.proofs.ClauseLaws.{dropped_masks}
 
 -- ---- the clauses that are kept
@@ -46,35 +46,32 @@ kept_fewer (c ∷ cs) = go (is_dropped c) (kept_fewer cs)
     go true h = omega arith
     go false h = omega arith
 
--- ---- the arrays
+-- ---- the masks of those that are kept
 
--- After i clauses: the masks of those that are kept stand in two arrays.
-pub record KeptIn (ys ns : List ℕ) (kept i : ℕ) (done : List (List Literal)) : Type 0 where
+-- After i clauses.
+pub record KeptIn (sets : List LiteralSet) (i : ℕ) (done : List (List Literal)) : Type 0 where
   pub counted : length done ≡ i
-  pub yes_kept : Filled 0 max_rules yes_mask ys kept (kept_of done)
-  pub no_kept : Filled 0 max_rules no_mask ns kept (kept_of done)
+  pub stored : sets ≡ kept_masks done
 
-pub kept_none : KeptIn (replicate max_rules 0) (replicate max_rules 0) 0 0 []
+pub kept_none : KeptIn [] 0 []
 unfolding kept_of
-kept_none = record { counted = refl; yes_kept = filled_none; no_kept = filled_none }
+kept_none = record { counted = refl; stored = refl }
 
-module _ {ys ns : List ℕ} {kept i : ℕ} {done : List (List Literal)} (g : KeptIn ys ns kept i done) where
-  pub kept_upto : kept ≤ i
-  kept_upto = omega (arith, kept_fewer done, g.yes_kept.counted, g.counted)
+module _ {sets : List LiteralSet} {i : ℕ} {done : List (List Literal)} (g : KeptIn sets i done) where
+  pub kept_upto : length sets ≤ i
+  kept_upto = rw g.stored (omega (arith, kept_fewer done, length-map (kept_of done) masks, g.counted))
 
   module _ (c : List Literal) where
     one_more : length (done ++ (c ∷ [])) ≡ i + 1
     one_more = length-append done (c ∷ []) ∙ ap (λ n. n + 1) g.counted
 
-    pub kept_dropped : is_dropped c ≡ true → KeptIn ys ns kept (i + 1) (done ++ (c ∷ []))
-    kept_dropped e = record { counted = one_more; yes_kept = rw (kept_same done c e) g.yes_kept; no_kept = rw (kept_same done c e) g.no_kept }
+    pub kept_dropped : is_dropped c ≡ true → KeptIn sets (i + 1) (done ++ (c ∷ []))
+    kept_dropped e = record { counted = one_more; stored = rw (kept_same done c e) g.stored }
 
-    pub kept_stored : {y n : ℕ} → is_dropped c ≡ false → kept < max_rules → y ≡ yes_mask c → n ≡ no_mask c
-        → KeptIn (set ys kept y) (set ns kept n) (kept + 1) (i + 1) (done ++ (c ∷ []))
-    kept_stored e h p q = record {
+    pub kept_stored : {two : LiteralSet} → is_dropped c ≡ false → two ≡ masks c → KeptIn (sets ++ (two ∷ [])) (i + 1) (done ++ (c ∷ []))
+    kept_stored e p = record {
       counted = one_more;
-      yes_kept = rw (kept_more done c e) (filled_more g.yes_kept h p);
-      no_kept = rw (kept_more done c e) (filled_more g.no_kept h q);
+      stored = rw (g.stored, p, kept_more done c e) (sym (map-append masks (kept_of done) (c ∷ [])));
     }
 
 -- ---- the clauses in a row
@@ -85,13 +82,13 @@ module _ (s : List ℕ) (v total from : ℕ) where
   clauses_left i place = clauses_from s v (total - i) place
 
   -- After i clauses.
-  abbrev pub ClausesSoFar : List ℕ → List ℕ → ℕ → ℕ → ℕ → Type 0
-  ClausesSoFar ys ns kept place i = SoFar (clauses_from s v total from) (KeptIn ys ns kept i) (clauses_left i place)
+  abbrev pub ClausesSoFar : List LiteralSet → ℕ → ℕ → Type 0
+  ClausesSoFar sets place i = SoFar (clauses_from s v total from) (KeptIn sets i) (clauses_left i place)
 
-  pub clauses_none : ClausesSoFar (replicate max_rules 0) (replicate max_rules 0) 0 from 0
+  pub clauses_none : ClausesSoFar [] from 0
   clauses_none = so_far_none (rw sub-zero refl) kept_none
 
-  module _ (place : ℕ) {ys ns : List ℕ} {kept i : ℕ} (g : ClausesSoFar ys ns kept place i) where
+  module _ (place : ℕ) {sets : List LiteralSet} {i : ℕ} (g : ClausesSoFar sets place i) where
     pub clauses_all : total ≤ i → clauses_from s v total from ≡ value g.done place
     unfolding clauses_from
     clauses_all h = let left : total - i ≡ 0 = omega arith in so_far_all g (rw left refl)
@@ -104,19 +101,19 @@ module _ (s : List ℕ) (v total from : ℕ) where
       unfolding clauses_from
       clauses_refused f = so_far_refused g (rw (left_one, f) refl)
 
-      module _ {two : LiteralSet} {next : ℕ} {b : Bool} (c : List Literal) (f : clause_from s v place ≡ value c next) (t : two ≡ masks c)
-          (d : b ≡ clashes two) where
-        due : clauses_left i place ≡ with_item c (clauses_left (i + 1) next)
+      module _ {read : Clause} (e : Ok read ≡ read_answer clause_read (clause_from s v place)) {b : Bool} (d : b ≡ clashes read.set) where
+        k : (c : List Literal) × (clause_from s v place ≡ value c read.next) × (read.set ≡ masks c)
+        k = clause_ok _ e
+
+        due : clauses_left i place ≡ with_item k.0 (clauses_left (i + 1) read.next)
         unfolding clauses_from
-        due = rw (left_one, f) refl
+        due = rw (left_one, k.1) refl
 
-        drops : {x : Bool} → b ≡ x → is_dropped c ≡ x
-        drops e = sym (dropped_masks c) ∙ ap clashes (sym t) ∙ sym d ∙ e
+        drops : {x : Bool} → b ≡ x → is_dropped k.0 ≡ x
+        drops f = sym (dropped_masks k.0) ∙ ap clashes (sym k.2) ∙ sym d ∙ f
 
-        pub clauses_drop : b ≡ true → ClausesSoFar ys ns kept next (i + 1)
-        clauses_drop e = so_far_more c g due (λ done k. kept_dropped k c (drops e))
+        pub clauses_drop : b ≡ true → ClausesSoFar sets read.next (i + 1)
+        clauses_drop f = so_far_more k.0 g due (λ done w. kept_dropped w k.0 (drops f))
 
-        pub clauses_keep : b ≡ false → total ≤ max_rules → ClausesSoFar (set ys kept two.yes) (set ns kept two.no) (kept + 1) next (i + 1)
-        clauses_keep e h =
-            so_far_more c g due
-            (λ done k. kept_stored k c (drops e) (omega (arith, kept_upto k)) (ap (λ x. x.yes) t) (ap (λ x. x.no) t))
+        pub clauses_keep : b ≡ false → ClausesSoFar (sets ++ (read.set ∷ [])) read.next (i + 1)
+        clauses_keep f = so_far_more k.0 g due (λ done w. kept_stored w k.0 (drops f) k.2)

@@ -9,11 +9,13 @@ use native.Mathlib.Omega.{arith}
 use borrow.Author.Tests.{le-leb, lt-leb}
 use lib.ListN.{length, get_or, take, drop, drop_of_length-le}
 use lib.Seq.{drop-cons}
+use Rattle.std.specs.Prelude.{Ok}
 use Rattle.records.specs.Format.{value, refused}
+use Rattle.records.specs.Promises.{read_answer}
 use Rattle.dimacs.specs.Text.{is, run, is_digit, is_first_digit, numeral, stands, after, number, number_up_to}
-use Rattle.dimacs.specs.Promises.{too_large, capped_answer}
-use Rattle.dimacs.specs.declared.numbers.NumberRead.{NumberRead}
-use Rattle.dimacs.proofs.ReadLaws.{capped_refused, capped_says}
+use Rattle.dimacs.specs.Promises.{too_large, capped}
+use Rattle.dimacs.specs.declared.numbers.Number.{Number}
+use Rattle.dimacs.proofs.ReadLaws.{capped_ok}
 
 -- ---- digits
 
@@ -70,21 +72,16 @@ module _ (s : List ℕ) (place : ℕ) where
 
 -- ---- a number up to a limit
 
-module _ (s : List ℕ) (most refusal at place : ℕ) {r : NumberRead} (e : r ≡ capped_answer (number s place)) where
-  pub up_to_refused : {n p : ℕ} → r ≡ NumberRead.Refused n p → number_up_to s most refusal at place ≡ refused n p
+module _ (s : List ℕ) (most refusal at place : ℕ) (l : most < too_large) {n : Number} (e : Ok n ≡ read_answer capped (number s place)) where
+  pub up_to_large : most < n.value → number_up_to s most refusal at place ≡ refused refusal at
   unfolding number_up_to
-  up_to_refused f = rw (capped_refused _ e f) refl
+  up_to_large h =
+      let k = capped_ok _ e in
+      rw (k.1, lt-leb k.0 most (omega (arith, k.2))) refl
 
-  module _ (l : most < too_large) {n next : ℕ} (f : r ≡ NumberRead.Says n next) where
-    pub up_to_large : most < n → number_up_to s most refusal at place ≡ refused refusal at
-    unfolding number_up_to
-    up_to_large h =
-        let k = capped_says _ e f in
-        rw (k.1, lt-leb k.0 most (omega (arith, k.2))) refl
-
-    pub up_to_says : n ≤ most → number_up_to s most refusal at place ≡ value n next
-    unfolding number_up_to
-    up_to_says h =
-        let k = capped_says _ e f in
-        let same : k.0 ≡ n = omega (arith, k.2) in
-        rw (k.1, same, le-leb n most h) refl
+  pub up_to_says : n.value ≤ most → number_up_to s most refusal at place ≡ value n.value n.next
+  unfolding number_up_to
+  up_to_says h =
+      let k = capped_ok _ e in
+      let same : k.0 ≡ n.value = omega (arith, k.2) in
+      rw (k.1, same, le-leb n.value most h) refl

@@ -17,7 +17,7 @@ use Rattle.records.specs.Limits.{max_variables, max_literals}
 use Rattle.records.specs.Format.{says, Read, value, Cost, Rule, always, rising, many, opened, marked, begins, pair, is_cost, WN, cost_at, cost_values, cost_from}
 use Rattle.records.specs.Format.{rule_at, rule_values, window_from, rule_from}
 use Rattle.records.proofs.LiteralLaws.{rising_none, rising_more, rising_head}
-use Rattle.book.proofs.ValueLaws.{Each}
+use Rattle.records.proofs.RowLaws.{Each}
 use Rattle.log_form.specs.Format.{two_bytes, list_bytes, rising_over}
 use Rattle.log_form.specs.Laws.Lists.{list_rises}
 use Rattle.log_form.specs.Laws.Reads.{byte_back}

@@ -1,114 +1,40 @@
--- From a callee's answer back to what the text means.
+-- From a callee's answer back to what the text means: a value, as it is kept.
 -- Assumes nothing.
-use mathlib.Core.Path.{◌≡◌, ap, ap₂}
+use mathlib.Core.Path.{◌≡◌, sym, ap, ◌∙◌}
 use mathlib.Core.List.{List}
 use Prim.Native.Nat.{ℕ, min}
-use native.Mathlib.Omega.{arith}
+use Rattle.std.specs.Prelude.{Ok}
 use Rattle.literals.specs.Literal.{Literal}
-use Rattle.literals.specs.declared.LiteralSet.{LiteralSet}
-use Rattle.records.specs.Format.{Read, value, refused}
-use Rattle.records.specs.Promises.{masks}
-use Rattle.book.specs.Promises.{place_answer}
-use Rattle.book.specs.declared.PlaceAfter.{PlaceAfter}
+use Rattle.records.specs.Format.{Read, value}
+use Rattle.records.specs.Promises.{masks, read_answer}
+use Rattle.records.proofs.ReadLaws.{then_ok}
 use Rattle.dimacs.specs.Text.{Formula, Counts}
-use Rattle.dimacs.specs.Promises.{too_large, capped_answer, number_answer, literal_answer, clause_answer, head_answer, clauses_answer, text_answer, counts_of}
-use Rattle.dimacs.specs.declared.numbers.NumberRead.{NumberRead}
-use Rattle.dimacs.specs.declared.numbers.LiteralRead.{LiteralRead}
-use Rattle.dimacs.specs.declared.clauses.ClauseRead.{ClauseRead}
-use Rattle.dimacs.specs.declared.clauses.ClausesRead.{ClausesRead}
-use Rattle.dimacs.specs.declared.head.HeadRead.{HeadRead}
-use Rattle.dimacs.specs.declared.TextRead.{TextRead}
+use Rattle.dimacs.specs.Promises.{too_large, capped, number_read, literal_read, clause_read, head_read, kept_masks, clauses_read, formula_read, counts_of}
+use Rattle.dimacs.specs.declared.numbers.Number.{Number}
+use Rattle.dimacs.specs.declared.numbers.Signed.{Signed}
+use Rattle.dimacs.specs.declared.head.Head.{Head}
+use Rattle.dimacs.specs.declared.clauses.Clause.{Clause}
+use Rattle.dimacs.specs.declared.clauses.Clauses.{Clauses}
+use Rattle.dimacs.specs.declared.Formula as kept
 
--- ---- a refusal
+pub capped_ok : (m : Read ℕ) {n : Number} → Ok n ≡ read_answer capped m → (k : ℕ) × (m ≡ value k n.next) × (n.value ≡ min k too_large)
+capped_ok m e = let q = then_ok capped m e in (q.0, q.2 ∙ ap (λ c. value q.0 c.next) (sym q.3), ap (λ c. c.value) q.3)
 
-module _ {n p : ℕ} where
-  pub place_refused : {A : Type 0} (m : Read A) {r : PlaceAfter} → r ≡ place_answer m → r ≡ PlaceAfter.Refused n p → m ≡ refused n p
-  unfolding place_answer
-  place_refused (value a q) e f = let z : ◌≡◌ {A = ℕ} 0 1 = cc in absurd (omega arith)
-  place_refused (refused a q) e f = cc
+pub number_ok : (m : Read ℕ) {n : Number} → Ok n ≡ read_answer number_read m → m ≡ value n.value n.next
+number_ok m e = let q = then_ok number_read m e in q.2 ∙ ap (λ c. value c.value c.next) (sym q.3)
 
-  pub capped_refused : (m : Read ℕ) {r : NumberRead} → r ≡ capped_answer m → r ≡ NumberRead.Refused n p → m ≡ refused n p
-  unfolding capped_answer
-  capped_refused (value a q) e f = let z : ◌≡◌ {A = ℕ} 0 1 = cc in absurd (omega arith)
-  capped_refused (refused a q) e f = cc
+pub literal_ok : (m : Read Literal) {n : Signed} → Ok n ≡ read_answer literal_read m → m ≡ value n.literal n.next
+literal_ok m e = let q = then_ok literal_read m e in q.2 ∙ ap (λ c. value c.literal c.next) (sym q.3)
 
-  pub number_refused : (m : Read ℕ) {r : NumberRead} → r ≡ number_answer m → r ≡ NumberRead.Refused n p → m ≡ refused n p
-  unfolding number_answer
-  number_refused (value a q) e f = let z : ◌≡◌ {A = ℕ} 0 1 = cc in absurd (omega arith)
-  number_refused (refused a q) e f = cc
+pub clause_ok : (m : Read (List Literal)) {n : Clause} → Ok n ≡ read_answer clause_read m → (c : List Literal) × (m ≡ value c n.next) × (n.set ≡ masks c)
+clause_ok m e = let q = then_ok clause_read m e in (q.0, q.2 ∙ ap (λ c. value q.0 c.next) (sym q.3), ap (λ c. c.set) q.3)
 
-  pub literal_refused : (m : Read Literal) {r : LiteralRead} → r ≡ literal_answer m → r ≡ LiteralRead.Refused n p → m ≡ refused n p
-  unfolding literal_answer
-  literal_refused (value a q) e f = let z : ◌≡◌ {A = ℕ} 0 1 = cc in absurd (omega arith)
-  literal_refused (refused a q) e f = cc
+pub head_ok : (m : Read Counts) {h : Head} → Ok h ≡ read_answer head_read m → m ≡ value (counts_of h) h.next
+head_ok m e = let q = then_ok head_read m e in q.2 ∙ ap (λ c. value (counts_of c) c.next) (sym q.3)
 
-  pub clause_refused : (m : Read (List Literal)) {r : ClauseRead} → r ≡ clause_answer m → r ≡ ClauseRead.Refused n p → m ≡ refused n p
-  unfolding clause_answer
-  clause_refused (value a q) e f = let z : ◌≡◌ {A = ℕ} 0 1 = cc in absurd (omega arith)
-  clause_refused (refused a q) e f = cc
+pub clauses_ok : (m : Read (List (List Literal))) {n : Clauses} → Ok n ≡ read_answer clauses_read m
+    → (cs : List (List Literal)) × (m ≡ value cs n.next) × (n.kept.items ≡ kept_masks cs)
+clauses_ok m e = let q = then_ok clauses_read m e in (q.0, q.2 ∙ ap (λ c. value q.0 c.next) (sym q.3), ap (λ c. c.kept.items) q.3)
 
-  pub head_refused : (m : Read Counts) {r : HeadRead} → r ≡ head_answer m → r ≡ HeadRead.Refused n p → m ≡ refused n p
-  unfolding head_answer
-  head_refused (value a q) e f = let z : ◌≡◌ {A = ℕ} 0 1 = cc in absurd (omega arith)
-  head_refused (refused a q) e f = cc
-
-  pub clauses_refuse : (m : Read (List (List Literal))) {r : ClausesRead} → r ≡ clauses_answer m → r.after ≡ PlaceAfter.Refused n p → m ≡ refused n p
-  unfolding clauses_answer
-  clauses_refuse (value a q) e f = let z : ◌≡◌ {A = ℕ} 0 1 = cc in absurd (omega arith)
-  clauses_refuse (refused a q) e f = cc
-
-  pub text_refused : (m : Read Formula) {r : TextRead} → r ≡ text_answer m → r.after ≡ PlaceAfter.Refused n p → m ≡ refused n p
-  unfolding text_answer
-  text_refused (value a q) e f = let z : ◌≡◌ {A = ℕ} 0 1 = cc in absurd (omega arith)
-  text_refused (refused a q) e f = cc
-
--- ---- a value
-
-module _ {p : ℕ} where
-  pub place_at : {A : Type 0} (m : Read A) {r : PlaceAfter} → r ≡ place_answer m → r ≡ PlaceAfter.At p → (a : A) × (m ≡ value a p)
-  unfolding place_answer
-  place_at (value a q) e f = (a, cc)
-  place_at (refused a q) e f = let z : ◌≡◌ {A = ℕ} 0 1 = cc in absurd (omega arith)
-
-  pub capped_says : (m : Read ℕ) {r : NumberRead} {n : ℕ} → r ≡ capped_answer m → r ≡ NumberRead.Says n p
-      → (k : ℕ) × (m ≡ value k p) × (n ≡ min k too_large)
-  unfolding capped_answer
-  capped_says (value a q) e f = (a, cc, cc)
-  capped_says (refused a q) e f = let z : ◌≡◌ {A = ℕ} 0 1 = cc in absurd (omega arith)
-
-  pub number_says : (m : Read ℕ) {r : NumberRead} {n : ℕ} → r ≡ number_answer m → r ≡ NumberRead.Says n p → m ≡ value n p
-  unfolding number_answer
-  number_says (value a q) e f = cc
-  number_says (refused a q) e f = let z : ◌≡◌ {A = ℕ} 0 1 = cc in absurd (omega arith)
-
-  pub literal_says : (m : Read Literal) {r : LiteralRead} {l : Literal} → r ≡ literal_answer m → r ≡ LiteralRead.Says l p → m ≡ value l p
-  unfolding literal_answer
-  literal_says (value a q) e f = cc
-  literal_says (refused a q) e f = let z : ◌≡◌ {A = ℕ} 0 1 = cc in absurd (omega arith)
-
-  pub clause_says : (m : Read (List Literal)) {r : ClauseRead} {two : LiteralSet} → r ≡ clause_answer m → r ≡ ClauseRead.Says two p
-      → (c : List Literal) × (m ≡ value c p) × (two ≡ masks c)
-  unfolding clause_answer
-  clause_says (value c q) e f = (c, cc, cc)
-  clause_says (refused a q) e f = let z : ◌≡◌ {A = ℕ} 0 1 = cc in absurd (omega arith)
-
-  pub head_says : (m : Read Counts) {r : HeadRead} {v n : ℕ} → r ≡ head_answer m → r ≡ HeadRead.Says v n p → m ≡ value (counts_of v n) p
-  unfolding head_answer
-  head_says (value h q) {v = v} {n} e f =
-      let same_v : h.variables ≡ v = cc in
-      let same_n : h.clauses ≡ n = cc in
-      let same_place : q ≡ p = cc in
-      ap₂ value (ap₂ counts_of same_v same_n) same_place
-  head_says (refused a q) e f = let z : ◌≡◌ {A = ℕ} 0 1 = cc in absurd (omega arith)
-
-  pub clauses_say : (m : Read (List (List Literal))) {r : ClausesRead} → r ≡ clauses_answer m → r.after ≡ PlaceAfter.At p
-      → (cs : List (List Literal)) × (m ≡ value cs p) × (r ≡ clauses_answer (value cs p))
-  unfolding clauses_answer
-  clauses_say (value cs q) e f = let same : q ≡ p = cc in (cs, ap (value cs) same, rw same at e)
-  clauses_say (refused a q) e f = let z : ◌≡◌ {A = ℕ} 0 1 = cc in absurd (omega arith)
-
-  pub text_says : (m : Read Formula) {r : TextRead} → r ≡ text_answer m → r.after ≡ PlaceAfter.At p
-      → (f : Formula) × (m ≡ value f p) × (r ≡ text_answer (value f p))
-  unfolding text_answer
-  text_says (value h q) e f = let same : q ≡ p = cc in (h, ap (value h) same, rw same at e)
-  text_says (refused a q) e f = let z : ◌≡◌ {A = ℕ} 0 1 = cc in absurd (omega arith)
+pub formula_ok : (m : Read Formula) {n : kept.Formula} → Ok n ≡ read_answer formula_read m → (f : Formula) × (end : ℕ) × (m ≡ value f end) × (n ≡ formula_read f end)
+formula_ok m e = then_ok formula_read m e

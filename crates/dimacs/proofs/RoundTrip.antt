@@ -14,7 +14,7 @@ use Rattle.literals.specs.Laws.{sign_bit, sign_mask, mask_none, mask_more, sign_
 use Rattle.records.specs.Limits.{max_variables, max_choices, max_rules, max_literals, max_without_facts}
 use Rattle.records.specs.Format.{says, value, Header, always, OrderBook, WN, EN, opened, marked, begins, header_at, header_values, end_at, facts_from, from_rules}
 use Rattle.records.specs.Format.{read_book}
-use Rattle.book.proofs.ValueLaws.{Each}
+use Rattle.records.proofs.RowLaws.{Each}
 use Rattle.dimacs.specs.Text.{Formula, is_dropped, rule_of}
 use Rattle.dimacs.specs.Import.{choices_of, kept_of, rules_of, book_of, costs_bytes, rules_bytes, book_bytes, imported_bytes}
 use Rattle.dimacs.proofs.Good.{OverVariable, GoodClause, GoodFormula}

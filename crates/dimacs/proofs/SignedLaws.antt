@@ -1,34 +1,40 @@
 -- Numbers of a clause: literals and the closing 0.
 -- Assumes nothing.
-use mathlib.Core.Path.{◌≡◌, refl}
+use mathlib.Core.Path.{◌≡◌, refl, ◌∙◌}
 use mathlib.Core.Bool.{Bool, true, false, cond}
 use mathlib.Core.List.{List}
-use Prim.Native.Nat.{ℕ, zero, suc, ◌+◌, ◌-◌, ◌%◌, ◌≤◌}
+use Prim.Native.Nat.{ℕ, zero, suc, ◌+◌, ◌≤◌}
 use native.Mathlib.Numerals.{add-one}
 use native.Mathlib.Omega.{arith}
-use borrow.Author.Tests.{leb-true, lt-ltb, le-ltb}
+use borrow.Author.Tests.{leb-true}
 use lib.Dec.{leb}
-use lib.IntN.{pos}
-use Rattle.literals.specs.Literal.{of_byte}
+use lib.IntN.{pos, ◌-ℤ◌}
+use mir.Syntax.{w8}
+use mir.Val.{SFits, to_z, of_z}
+use mir.Facts.{to_z-of_z}
+use Rattle.std.proofs.lemmas.Int.{ints}
 use Rattle.records.specs.Limits.{max_variables}
 use Rattle.records.specs.Format.{Read, value, refused, and_then}
 use Rattle.dimacs.specs.Text.{is, is_first_digit, opposite, stands, number, number_up_to, signed}
-use Rattle.dimacs.specs.Promises.{number_answer, literal_answer, Small, signed_as}
-use Rattle.dimacs.specs.declared.numbers.NumberRead.{NumberRead}
 
--- ---- the byte of a number with its sign
+-- ---- the signed byte of a number with its sign
 
-pub plain_byte : (n : ℕ) → n ≤ max_variables → of_byte n ≡ pos n
-unfolding of_byte
-plain_byte n h = rw (lt-ltb n 128 (omega arith)) refl
+pub plain_byte : (n : ℕ) → n ≤ max_variables → to_z w8 n ≡ pos n
+plain_byte n h = omega (arith, ints)
 
-pub minus_byte : (n : ℕ) → n ≤ max_variables → of_byte ((256 - n) % 256) ≡ opposite n
-unfolding of_byte
-minus_byte zero h = refl
-minus_byte (suc n) h =
-    let size : (256 - suc n) % 256 ≡ 255 - n = omega arith in
-    let back : 255 - (255 - n) ≡ n = omega arith in
-    rw (size, le-ltb (255 - n) 128 (omega arith), back) refl
+negated : (n : ℕ) → pos 0 -ℤ pos n ≡ opposite n
+negated zero = refl
+negated (suc n) = omega (arith, ints)
+
+opposite_fits : (n : ℕ) → n ≤ max_variables → SFits w8 (opposite n)
+opposite_fits zero h = record { sfits = omega arith }
+opposite_fits (suc n) h = record { sfits = omega arith }
+
+pub minus_fits : (n : ℕ) → n ≤ max_variables → SFits w8 (pos 0 -ℤ to_z w8 n)
+minus_fits n h = rw (plain_byte n h, negated n) (opposite_fits n h)
+
+pub minus_byte : (n : ℕ) → n ≤ max_variables → to_z w8 (of_z w8 (pos 0 -ℤ to_z w8 n)) ≡ opposite n
+minus_byte n h = to_z-of_z (minus_fits n h) ∙ rw (plain_byte n h, negated n) refl
 
 -- ---- a number up to a limit is at most the limit
 
@@ -45,40 +51,28 @@ pub up_to_most : (s : List ℕ) (most refusal at place : ℕ) {n next : ℕ} →
 unfolding number_up_to
 up_to_most s most refusal at place e = number_upto (number s place) most refusal at e
 
-pub small_says : {r : NumberRead} {n next : ℕ} → Small r → r ≡ NumberRead.Says n next → n ≤ max_variables
-small_says h e = (rw e at h).small
-
-pub number_small : (s : List ℕ) (most refusal at place : ℕ) {r : NumberRead} → most ≤ max_variables → r ≡ number_answer (number_up_to s most refusal at place)
-    → Small r
-unfolding number_answer
-number_small s most refusal at place {r} h e = go (number_up_to s most refusal at place) refl e
-  where
-    go : (m : Read ℕ) → number_up_to s most refusal at place ≡ m → r ≡ number_answer m → Small r
-    go (value n p) d g = rw g (record { small = omega (arith, up_to_most s most refusal at place d) })
-    go (refused n p) d g = rw g (record { small = tt })
-
 -- ---- a number with its sign
 
 module _ (s : List ℕ) (v place : ℕ) where
-  pub signed_plain : {r : NumberRead} → stands s (is 0x2D) place ≡ false → r ≡ number_answer (number_up_to s v 12 place place)
-      → signed_as false r ≡ literal_answer (signed s v place)
-  unfolding signed signed_as literal_answer number_answer
-  signed_plain {r} d e = rw (e, d) (go (number_up_to s v 12 place place))
-    where
-      go : (m : Read ℕ) → signed_as false (number_answer m) ≡ literal_answer (and_then m (λ n next. value (pos n) next))
-      go (value n p) = refl
-      go (refused n p) = refl
+  module _ (d : stands s (is 0x2D) place ≡ false) where
+    pub signed_plain : {n next : ℕ} → number_up_to s v 12 place place ≡ value n next → signed s v place ≡ value (pos n) next
+    unfolding signed
+    signed_plain e = rw (d, e) refl
+
+    pub plain_stopped : {n p : ℕ} → number_up_to s v 12 place place ≡ refused n p → signed s v place ≡ refused n p
+    unfolding signed
+    plain_stopped e = rw (d, e) refl
 
   module _ (d : stands s (is 0x2D) place ≡ true) where
     pub signed_wrong : stands s is_first_digit (place + 1) ≡ false → signed s v place ≡ refused 12 (place + 1)
     unfolding signed
     signed_wrong e = rw (d, ← (add-one place), e) refl
 
-    pub signed_minus : {r : NumberRead} → stands s is_first_digit (place + 1) ≡ true → r ≡ number_answer (number_up_to s v 12 place (place + 1))
-        → signed_as true r ≡ literal_answer (signed s v place)
-    unfolding signed signed_as literal_answer number_answer
-    signed_minus {r} f e = rw (e, d, ← (add-one place), f) (go (number_up_to s v 12 place (place + 1)))
-      where
-        go : (m : Read ℕ) → signed_as true (number_answer m) ≡ literal_answer (and_then m (λ n next. value (opposite n) next))
-        go (value n p) = refl
-        go (refused n p) = refl
+    module _ (f : stands s is_first_digit (place + 1) ≡ true) where
+      pub signed_minus : {n next : ℕ} → number_up_to s v 12 place (place + 1) ≡ value n next → signed s v place ≡ value (opposite n) next
+      unfolding signed
+      signed_minus e = rw (d, ← (add-one place), f, e) refl
+
+      pub minus_stopped : {n p : ℕ} → number_up_to s v 12 place (place + 1) ≡ refused n p → signed s v place ≡ refused n p
+      unfolding signed
+      minus_stopped e = rw (d, ← (add-one place), f, e) refl

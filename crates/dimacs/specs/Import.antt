@@ -1,11 +1,12 @@
 -- The book that is made of a DIMACS CNF text (document 02, E2): what it says, its bytes, and what the call answers for any text and any buffer.
-use Rattle.std.specs.Prelude.{◌≡◌, cond, List, [], ◌∷◌, ◌++◌, map, ℕ, zero, suc, min, ltb, length, drop, replicate}
+use Rattle.std.specs.Prelude.{◌≡◌, cond, List, [], ◌∷◌, ◌++◌, map, ℕ, zero, suc, min, ltb, length, drop, replicate, Result, Ok, Err}
 use Rattle.literals.specs.Literal.{Literal}
 use Rattle.records.specs.Limits.{max_choices, max_without_facts}
 use Rattle.records.specs.Format.{Read, value, refused, always, OrderBook, HD, CS, RL, EN}
+use Rattle.records.specs.Refusals.{refusal_of}
+use Rattle.records.specs.declared.refusal.Refusal.{Refusal}
 use Rattle.log_form.specs.Format.{two_bytes, list_bytes}
 use Rattle.dimacs.specs.Text.{Formula, is_dropped, rule_of, formula_of}
-use Rattle.dimacs.specs.declared.Imported.{Imported}
 
 -- ---- what the book says
 
@@ -66,9 +67,9 @@ unfoldable pub imported : ℕ → List ℕ → Read Formula
 imported room s = cond (ltb room max_without_facts) (refused 8 0) (formula_of s)
 
 -- The answer: the book's length, or the refusal.
-unfoldable pub import_answer : Read Formula → Imported
-import_answer (value f end) = Imported.Written (length (imported_bytes f))
-import_answer (refused number place) = Imported.Refused number place
+unfoldable pub import_answer : Read Formula → Result ℕ Refusal
+import_answer (value f end) = Ok (length (imported_bytes f))
+import_answer (refused number place) = Err (refusal_of number place)
 
 -- The buffer at exit: the book and then the old bytes, or as it was.
 unfoldable pub buffer_after : Read Formula → List ℕ → List ℕ
@@ -76,6 +77,6 @@ buffer_after (value f end) before = imported_bytes f ++ drop (length (imported_b
 buffer_after (refused number place) before = before
 
 -- What the call says, of what it is to import.
-pub record ImportedAs (m : Read Formula) (before after : List ℕ) (r : Imported) : Type 0 where
+pub record ImportedAs (m : Read Formula) (before after : List ℕ) (r : Result ℕ Refusal) : Type 0 where
   pub answered : r ≡ import_answer m
   pub buffer : after ≡ buffer_after m before

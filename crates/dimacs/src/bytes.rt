@@ -1,12 +1,13 @@
 // The bytes of a text: what stands at a place, and runs of one kind of bytes.
-ghost use Rattle.std.specs.Prelude.{◌≡◌, ◌&&◌, leb};
-ghost use Rattle.dimacs.specs.Text.{is_blank, is_gap, stands, after, one_or_more, word};
+ghost use Rattle.std.specs.Prelude.{◌≡◌};
+ghost use Rattle.records.specs.Promises.{read_answer, place_after};
+ghost use Rattle.dimacs.specs.Text.{is_blank, stands, after, one_or_more, word};
 ghost use Rattle.dimacs.specs.Promises.{belongs};
-ghost use Rattle.book.specs.Promises.{place_answer};
 
-use book::PlaceAfter;
+use records::refusal::{Refusal, RefusalKind};
 
 // Kinds of bytes: this byte, blanks, blanks and line ends, all but line ends, digits, digits from 1 to 9.
+// A test handed over as a closure would be no plainer: each contract would need a clause more, that its calls are the test of specs/Text.
 #[derive(Clone, Copy)]
 pub enum Class {
     Is(u8),
@@ -18,93 +19,67 @@ pub enum Class {
 }
 
 // Whether a byte is 20, 09 or 0D.
+#[tactic(auto, unfolding(crate::specs::Text::is_blank))]
 fn is_blank(b: u8) -> bool
     ensures { result ≡ is_blank b }
 {
-    if b == b' ' {
-        return true;
-    }
-    if b == b'\t' {
-        return true;
-    }
-    b == b'\r'
-}
-
-// Whether a byte is a blank or a line end.
-fn is_gap(b: u8) -> bool
-    ensures { result ≡ is_gap b }
-{
-    if is_blank(b) {
-        return true;
-    }
-    b == b'\n'
-}
-
-// Whether a byte is a digit from `first` to 9.
-fn is_digit_from(first: u8, b: u8) -> bool
-    ensures { result ≡ leb first b && leb b 0x39 }
-{
-    if first <= b { b <= b'9' } else { false }
+    matches!(b, b' ' | b'\t' | b'\r')
 }
 
 // Whether a byte is of a class.
+#[tactic(auto, unfolding(crate::specs::Text::is_gap, crate::specs::Text::is_line_end, crate::specs::Text::is_digit, crate::specs::Text::is_first_digit))]
 fn belongs(class: Class, b: u8) -> bool
     ensures { result ≡ belongs class b }
 {
     match class {
         Class::Is(c) => b == c,
         Class::Blank => is_blank(b),
-        Class::Gap => is_gap(b),
+        Class::Gap => is_blank(b) || b == b'\n',
         Class::InLine => b != b'\n',
-        Class::Digit => is_digit_from(b'0', b),
-        Class::FirstDigit => is_digit_from(b'1', b),
+        Class::Digit => b.is_ascii_digit(),
+        Class::FirstDigit => matches!(b, b'1'..=b'9'),
     }
 }
 
 // Whether a byte of a class stands at a place.
+#[tactic(auto, unfolding(crate::specs::Text::stands))]
 pub fn stands(s: &[u8], place: usize, class: Class) -> bool
     ensures { result ≡ stands s.now (belongs class) place }
 {
-    if place < s.len() {
-        belongs(class, s[place])
-    } else {
-        false
-    }
+    s.get(place).is_some_and(|&b| belongs(class, b))
 }
 
 // The place after the bytes of a class, from a place on.
 pub fn run_end(s: &[u8], from: usize, class: Class) -> usize
     ensures { result ≡ after s.now (belongs class) from }
 {
-    let mut i = from;
-    while stands(s, i, class) {
-        i += 1;
-    }
-    i
+    // Not `skip`, which steps over the bytes before.
+    let left = &s[from.min(s.len())..];
+    from + left.iter().take_while(|&&b| belongs(class, b)).count()
 }
 
 // One or more bytes of a class.
-pub fn one_or_more(s: &[u8], place: usize, class: Class) -> PlaceAfter
-    ensures { result ≡ place_answer (one_or_more s.now (belongs class) place) }
+#[tactic(auto, unfolding(crate::specs::Text::one_or_more, records::specs::Promises::read_answer))]
+pub fn one_or_more(s: &[u8], place: usize, class: Class) -> Result<usize, Refusal>
+    ensures { result ≡ read_answer place_after (one_or_more s.now (belongs class) place) }
 {
     if !stands(s, place, class) {
-        return PlaceAfter::Refused { number: 12, place };
+        return Err(RefusalKind::Text.at(place));
     }
-    PlaceAfter::At(run_end(s, place, class))
+    Ok(run_end(s, place, class))
 }
 
 // The bytes of a word, one after the other.
-pub fn read_word(s: &[u8], w: &[u8], from: usize) -> PlaceAfter
-    ensures { result ≡ place_answer (word s.now w.now from) }
+#[tactic(auto, using(crate::proofs::ByteLaws::stands_within, crate::proofs::ByteLaws::spelled_none, crate::proofs::ByteLaws::spelled_wrong, crate::proofs::ByteLaws::spelled_more, crate::proofs::ByteLaws::spelled_all), unfolding(records::specs::Promises::read_answer))]
+pub fn read_word(s: &[u8], w: &[u8], from: usize) -> Result<usize, Refusal>
+    ensures { result ≡ read_answer place_after (word s.now w.now from) }
 {
     let mut place = from;
-    let mut i = 0;
-    while i < w.len() {
-        if !stands(s, place, Class::Is(w[i])) {
-            return PlaceAfter::Refused { number: 12, place };
+    for &b in w {
+        if !stands(s, place, Class::Is(b)) {
+            return Err(RefusalKind::Text.at(place));
         }
         place += 1;
-        i += 1;
     }
-    PlaceAfter::At(place)
+    Ok(place)
 }

@@ -1,32 +1,36 @@
-// Clauses: the literals of one as two masks, and the clauses that are kept, each in two arrays of masks.
+// Clauses: the literals of one as two masks, and the clauses that are kept.
 ghost use Rattle.std.specs.Prelude.{◌≡◌, suc, ◌≤◌, length};
 ghost use Rattle.records.specs.Limits.{max_variables, max_rules};
+ghost use Rattle.records.specs.Promises.{read_answer};
 ghost use Rattle.dimacs.specs.Text.{literals_from, clause_from, clauses_from};
-ghost use Rattle.dimacs.specs.Promises.{clause_answer, clauses_answer, clashes, allowed};
+ghost use Rattle.dimacs.specs.Promises.{clause_read, clauses_read, clashes, allowed};
 
 use crate::bytes::Class;
-use crate::numbers::LiteralRead;
 use crate::{bytes, numbers};
-use book::PlaceAfter;
+use arrayvec::ArrayVec;
 use literals::LiteralSet;
 use records::Book;
+use records::refusal::{Refusal, RefusalKind};
 
-#[derive(Clone, Copy)]
-pub enum ClauseRead {
-    Says { set: LiteralSet, next: usize },
-    Refused { number: u8, place: usize },
+// The most clauses that are kept: a capacity has to be a constant with a name of its own.
+pub const MAX_RULES: usize = Book::MAX_RULES;
+
+// The literals of a clause, and the place after its closing 0.
+#[derive(Clone, Copy, Debug, PartialEq, Eq)]
+struct Clause {
+    set: LiteralSet,
+    next: usize,
 }
 
-// The kept clauses as two parallel arrays of masks, with the place after all clauses or the first refusal.
-#[derive(Clone, Copy)]
-pub struct ClausesRead {
-    pub after: PlaceAfter,
-    pub kept: usize,
-    pub yes: [u64; Book::MAX_RULES],
-    pub no: [u64; Book::MAX_RULES],
+// The kept clauses, and the place after all clauses.
+#[derive(Drop)]
+pub struct Clauses {
+    pub kept: ArrayVec<LiteralSet, MAX_RULES>,
+    pub next: usize,
 }
 
 // Whether a clause holds a literal and its opposite.
+#[tactic(auto, unfolding(crate::specs::Promises::clashes, sets::specs::Sets::disjoint))]
 fn is_dropped(set: LiteralSet) -> bool
     ensures { result ≡ clashes set }
 {
@@ -34,91 +38,56 @@ fn is_dropped(set: LiteralSet) -> bool
 }
 
 // Whether a clause is dropped, or has few enough literals left.
+#[tactic(auto, using(log_form::specs::Laws::Lists::list_length_is), unfolding(crate::specs::Promises::allowed, literals::specs::LiteralSets::variables))]
 fn is_allowed(set: LiteralSet) -> bool
     ensures { result ≡ allowed set }
 {
-    if is_dropped(set) {
-        return true;
-    }
-    sets::count(sets::union(set.yes, set.no)) as usize <= Book::MAX_LITERALS
+    is_dropped(set) || sets::count(set.variables()) as usize <= Book::MAX_LITERALS
 }
 
 // The literals of a clause over `v` variables, up to its closing 0.
-fn read_literals(s: &[u8], v: usize, from: usize) -> ClauseRead
+fn read_literals(s: &[u8], v: usize, from: usize) -> Result<Clause, Refusal>
     requires { v ≤ max_variables }
-    ensures { result ≡ clause_answer (literals_from s.now v (suc (length s.now)) from) }
+    ensures { result ≡ read_answer clause_read (literals_from s.now v (suc (length s.now)) from) }
 {
-    let mut set = LiteralSet { yes: 0, no: 0 };
+    let mut set = LiteralSet::EMPTY;
     let mut at = from;
     loop {
-        match numbers::next_signed(s, v, at) {
-            LiteralRead::Refused { number, place } => return ClauseRead::Refused { number, place },
-            LiteralRead::Says { literal, next } => {
-                if literals::variable(literal) == 0 {
-                    return ClauseRead::Says { set, next };
-                }
-                set = set.with(literal);
-                at = next;
-            }
+        let read = numbers::next_signed(s, v, at)?;
+        at = read.next;
+        if read.literal == 0 {
+            return Ok(Clause { set, next: at });
         }
+        set = set.with(read.literal);
     }
 }
 
 // A clause over `v` variables, judged at its closing 0.
-fn read_clause(s: &[u8], v: usize, from: usize) -> ClauseRead
+fn read_clause(s: &[u8], v: usize, from: usize) -> Result<Clause, Refusal>
     requires { v ≤ max_variables }
-    ensures { result ≡ clause_answer (clause_from s.now v from) }
+    ensures { result ≡ read_answer clause_read (clause_from s.now v from) }
 {
-    match read_literals(s, v, from) {
-        ClauseRead::Refused { number, place } => ClauseRead::Refused { number, place },
-        ClauseRead::Says { set, next } => {
-            if !is_allowed(set) {
-                return ClauseRead::Refused {
-                    number: 13,
-                    place: bytes::run_end(s, from, Class::Gap),
-                };
-            }
-            ClauseRead::Says { set, next }
-        }
+    let clause = read_literals(s, v, from)?;
+    if !is_allowed(clause.set) {
+        return Err(RefusalKind::TextLimits.at(bytes::run_end(s, from, Class::Gap)));
     }
+    Ok(clause)
 }
 
 // So many clauses, from a place on. Those that are dropped are read and not kept.
-pub fn read_clauses(s: &[u8], v: usize, count: usize, from: usize) -> ClausesRead
+pub fn read_clauses(s: &[u8], v: usize, count: usize, from: usize) -> Result<Clauses, Refusal>
     requires v_le_max_variables { v ≤ max_variables }
     requires count_le_max_rules { count ≤ max_rules }
-    ensures { result ≡ clauses_answer (clauses_from s.now v count from) }
+    ensures { result ≡ read_answer clauses_read (clauses_from s.now v count from) }
 {
-    let mut yes = [0u64; Book::MAX_RULES];
-    let mut no = [0u64; Book::MAX_RULES];
-    let mut kept = 0;
-    let mut at = from;
-    let mut i = 0;
-    while i < count {
-        match read_clause(s, v, at) {
-            ClauseRead::Refused { number, place } => {
-                return ClausesRead {
-                    after: PlaceAfter::Refused { number, place },
-                    kept: 0,
-                    yes: [0u64; Book::MAX_RULES],
-                    no: [0u64; Book::MAX_RULES],
-                };
-            }
-            ClauseRead::Says { set, next } => {
-                if !is_dropped(set) {
-                    yes[kept] = set.yes;
-                    no[kept] = set.no;
-                    kept += 1;
-                }
-                at = next;
-                i += 1;
-            }
+    let mut kept = ArrayVec::new();
+    let mut next = from;
+    for _ in 0..count {
+        let clause = read_clause(s, v, next)?;
+        next = clause.next;
+        if !is_dropped(clause.set) {
+            kept.push(clause.set);
         }
     }
-    ClausesRead {
-        after: PlaceAfter::At(at),
-        kept,
-        yes,
-        no,
-    }
+    Ok(Clauses { kept, next })
 }

@@ -3,26 +3,27 @@
 use mathlib.Core.Path.{◌≡◌, refl, sym, ap, ◌∙◌}
 use mathlib.Core.Logic.{◌≢◌, ◌⊎◌, inl, inr, by_cases}
 use mathlib.Core.Bool.{Bool, true, false, cond}
-use mathlib.Core.List.{List, [], ◌∷◌, ◌++◌, map}
+use mathlib.Core.List.{List, [], ◌∷◌, ◌++◌, map, map-map}
 use Prim.Native.Nat.{ℕ, zero, suc, ◌+◌, ◌-◌, ◌^◌, ◌≤◌, ◌<◌}
 use native.Mathlib.Nat.{le_trans}
 use native.Mathlib.Decide.{ℕ_discrete, dec_lt}
 use native.Mathlib.Omega.{arith}
 use lib.Pow.{pow_mono}
 use lib.IntN.{pos, negsuc}
-use lib.ListN.{length, take, replicate, length-map, length-append, length-replicate}
-use lib.Seq.{take_at}
+use lib.ListN.{length, replicate, length-map}
 use Rattle.sets.specs.Sets.{bit, single, union, full, Within, Apart}
 use Rattle.sets.specs.Laws.Subset.{within_le}
 use Rattle.sets.specs.Laws.Bits.{bit_zero, bit_none, bit_le, bit_union, bit_single_other, bit_full, full_lt, member_lt}
 use Rattle.literals.specs.Literal.{Literal, variable}
+use Rattle.literals.specs.declared.LiteralSet.{LiteralSet}
 use Rattle.literals.specs.Truth.{yes_bit, no_bit, yes_mask, no_mask}
 use Rattle.literals.specs.Laws.{Proper, sign_bit, sign_mask, mask_none, mask_more, sign_bit_lem}
-use Rattle.records.specs.Limits.{max_choices, max_rules, max_cost}
+use Rattle.records.specs.Limits.{max_choices, max_cost}
 use Rattle.dates.specs.Windows.{in_force}
 use Rattle.dates.specs.declared.Moment.{Moment}
 use Rattle.records.specs.Format.{Rule, OrderBook, Cost, rising}
-use Rattle.book.specs.Answer.{masked_book, table, row, padded, rule_window, no_window}
+use Rattle.records.specs.Promises.{row, masks}
+use Rattle.book.specs.Answer.{masked_book, table, padded}
 use Rattle.records.proofs.LiteralLaws.{RisingHead, rising_head}
 use Rattle.book.proofs.CostLaws.{GoodCost}
 use Rattle.book.proofs.RuleLaws.{LiteralsRise}
@@ -31,9 +32,8 @@ use Rattle.book.proofs.WellFormed.{WellFormed}
 use Rattle.propagation.specs.Promises.{MasksBelow}
 use Rattle.sat.specs.Promises.{Posed}
 use Rattle.sat.specs.Laws.Rules.{Of, masks_none, masks_more, mask_lt}
-use Rattle.problem.specs.Limits.{most_rules}
 use Rattle.problem.specs.Problem.{Problem, rules_in_force, problem_of, given, cost_of}
-use Rattle.problem.specs.Masked.{kept_in_force}
+use Rattle.problem.specs.Masked.{yes_in, no_in, masked_from}
 use Rattle.problem.proofs.InForceLaws.{in_force_masks, in_force_few}
 use Rattle.problem.specs.Proper.{AllOf, ProperProblem}
 
@@ -139,39 +139,15 @@ module _ {b : OrderBook} (w : WellFormed b) (moment : Moment) where
     cheap = cost_bound b.costs w.costs_good (max_choices - length (map row b.costs));
   }
 
-  -- ---- the arrays of the code
+  -- ---- the rules that a search is handed are those in force
 
-  -- up to the last rule the book's arrays hold what was kept of its rules
-  kept_rules_lem : {A : Type 0} (d : A) (f : Rule → A) → take b.header.rules (padded d max_rules (map f b.rules)) ≡ map f b.rules
-  unfolding padded
-  kept_rules_lem d f = take_at (map f b.rules) _ b.header.rules (length-map b.rules f ∙ w.rule_count)
-
-  -- Of the masks of one sign in the book's array, those that are picked.
-  abbrev picked_of : (List Literal → ℕ) → List ℕ
-  picked_of mask = kept_in_force moment (masked_book b) (padded 0 max_rules (map (λ (r : Rule). mask r.literals) b.rules))
-
-  -- they are the masks of the rules in force
-  masks_picked : (mask : List Literal → ℕ) → picked_of mask ≡ map mask (problem_of moment b).rules
+  pub yes_kept : yes_in (masked_from moment (masked_book b)) ≡ map yes_mask (problem_of moment b).rules
   unfolding problem_of
-  masks_picked mask = rw (kept_rules_lem no_window rule_window, kept_rules_lem 0 (λ (r : Rule). mask r.literals)) (in_force_masks moment mask b.rules)
+  yes_kept = rw (in_force_masks moment b.rules) (map-map (λ (r : LiteralSet). r.yes) masks (rules_in_force moment b.rules))
 
-  picked_length : (mask : List Literal → ℕ) → length (picked_of mask) ≡ length (problem_of moment b).rules
-  picked_length mask = ap length (masks_picked mask) ∙ length-map (problem_of moment b).rules mask
-
-  -- there are few of them
-  pub few_picked : length (picked_of yes_mask) ≤ most_rules
-  few_picked = omega (arith, picked_length yes_mask, proper_book.few_rules)
-
-  -- they stand at the front of an array that has room for the most rules
-  pub room : (mask : List Literal → ℕ) → length (padded 0 most_rules (picked_of mask)) ≡ most_rules
-  unfolding padded
-  room mask =
-      length-append (picked_of mask) _
-      ∙ rw (length-replicate {A = ℕ} (most_rules - length (picked_of mask)) 0) (omega (arith, picked_length mask, proper_book.few_rules))
-
-  pub masks_kept : (mask : List Literal → ℕ) → take (length (picked_of yes_mask)) (padded 0 most_rules (picked_of mask)) ≡ map mask (problem_of moment b).rules
-  unfolding padded
-  masks_kept mask = take_at (picked_of mask) _ _ (picked_length mask ∙ sym (picked_length yes_mask)) ∙ masks_picked mask
+  pub no_kept : no_in (masked_from moment (masked_book b)) ≡ map no_mask (problem_of moment b).rules
+  unfolding problem_of
+  no_kept = rw (in_force_masks moment b.rules) (map-map (λ (r : LiteralSet). r.no) masks (rules_in_force moment b.rules))
 
 -- ---- the search of a proper problem
 

@@ -1,89 +1,88 @@
--- The rules in force, picked one after the other: their masks in an array, and that they are those of the book's rules in force.
+-- The rules in force, picked one after the other, and that they are those of the book's rules in force.
 -- Assumes nothing.
-use mathlib.Core.Path.{◌≡◌, refl, sym, ap, ◌∙◌}
+use mathlib.Core.Path.{◌≡◌, refl, ap, ◌∙◌}
 use mathlib.Core.Bool.{Bool, true, false, cond}
 use mathlib.Core.List.{List, [], ◌∷◌, ◌++◌, map, append-nil}
 use Prim.Native.Nat.{ℕ, zero, suc, ◌+◌, ◌≤◌, ◌<◌}
 use native.Mathlib.Numerals.{add-one}
 use native.Mathlib.Omega.{arith}
-use lib.ListN.{length, get_or, set, take, replicate, length-append, length-map}
+use lib.ListN.{length, get_or, take, length-append}
 use Rattle.dates.specs.Windows.{in_force}
 use Rattle.dates.specs.declared.Moment.{Moment}
 use Rattle.literals.specs.Literal.{Literal}
+use Rattle.literals.specs.declared.LiteralSet.{LiteralSet}
 use Rattle.records.specs.Format.{Rule, always}
-use Rattle.records.specs.declared.RuleWindow.{RuleWindow}
-use Rattle.book.specs.Answer.{padded, rule_window}
-use Rattle.book.proofs.PaddedLaws.{padded_snoc}
-use Rattle.problem.specs.Limits.{most_rules}
+use Rattle.records.specs.declared.Rule as kept
+use Rattle.book.specs.Answer.{kept_rule}
+use Rattle.records.specs.Promises.{masks}
 use Rattle.problem.specs.Problem.{rules_in_force}
-use Rattle.problem.specs.Masked.{masks_in_force}
-
--- as many elements as its image has: what the code knows of an array of structs
-pub long_field : (X Y : Type 0) (l : List X) (f : X → Y) {n : ℕ} → length (map f l) ≡ n → length l ≡ n
-long_field X Y l f e = sym (length-map l f) ∙ e
+use Rattle.problem.specs.Masked.{kept_in_force}
 
 module _ (moment : Moment) where
-  -- one rule more: its mask comes after those before it, where it is in force
-  masks_more : (ws : List RuleWindow) (ms : List ℕ) (i : ℕ) (d : RuleWindow) → i < length ws → i < length ms
-      → masks_in_force moment (take (suc i) ws) (take (suc i) ms)
-      ≡ masks_in_force moment (take i ws) (take i ms) ++ cond (in_force moment (get_or ws i d).applies) (get_or ms i 0 ∷ []) []
-  unfolding masks_in_force
-  masks_more [] ms i d h k = absurd (omega arith)
-  masks_more (w ∷ ws) [] i d h k = absurd (omega arith)
-  masks_more (w ∷ ws) (m ∷ ms) zero d h k = refl
-  masks_more (w ∷ ws) (m ∷ ms) (suc i) d h k = go (in_force moment w.applies) (masks_more ws ms i d (omega arith) (omega arith))
+  -- one rule more: its masks come after those before it, where it is in force
+  kept_more : (rs : List kept.Rule) (i : ℕ) (d : kept.Rule) → i < length rs
+      → kept_in_force moment (take (suc i) rs)
+      ≡ kept_in_force moment (take i rs) ++ cond (in_force moment (get_or rs i d).applies) ((get_or rs i d).literals ∷ []) []
+  unfolding kept_in_force
+  kept_more [] i d h = absurd (omega arith)
+  kept_more (r ∷ rs) zero d h = refl
+  kept_more (r ∷ rs) (suc i) d h = go (in_force moment r.applies) (kept_more rs i d (omega arith))
     where
       go : (b : Bool)
-          → masks_in_force moment (take (suc i) ws) (take (suc i) ms)
-          ≡ masks_in_force moment (take i ws) (take i ms) ++ cond (in_force moment (get_or ws i d).applies) (get_or ms i 0 ∷ []) []
-          → cond b (m ∷ masks_in_force moment (take (suc i) ws) (take (suc i) ms)) (masks_in_force moment (take (suc i) ws) (take (suc i) ms))
-          ≡ cond b (m ∷ masks_in_force moment (take i ws) (take i ms)) (masks_in_force moment (take i ws) (take i ms))
-          ++ cond (in_force moment (get_or ws i d).applies) (get_or ms i 0 ∷ []) []
-      go true e = ap (λ l. m ∷ l) e
+          → kept_in_force moment (take (suc i) rs)
+          ≡ kept_in_force moment (take i rs) ++ cond (in_force moment (get_or rs i d).applies) ((get_or rs i d).literals ∷ []) []
+          → cond b (r.literals ∷ kept_in_force moment (take (suc i) rs)) (kept_in_force moment (take (suc i) rs))
+          ≡ cond b (r.literals ∷ kept_in_force moment (take i rs)) (kept_in_force moment (take i rs))
+          ++ cond (in_force moment (get_or rs i d).applies) ((get_or rs i d).literals ∷ []) []
+      go true e = ap (λ l. r.literals ∷ l) e
       go false e = e
 
-  -- An array that holds the masks of those of the first i rules that are in force, so many of them, and zeros after them.
-  pub record Picked (ws : List RuleWindow) (ms : List ℕ) (array : List ℕ) (count i : ℕ) : Type 0 where
-    pub upto : count ≤ i
-    pub counted : length (masks_in_force moment (take i ws) (take i ms)) ≡ count
-    pub stored : array ≡ padded 0 most_rules (masks_in_force moment (take i ws) (take i ms))
+  kept_all : (rs : List kept.Rule) (i : ℕ) → length rs ≤ i → take i rs ≡ rs
+  kept_all [] zero h = refl
+  kept_all [] (suc i) h = refl
+  kept_all (r ∷ rs) zero h = absurd (omega arith)
+  kept_all (r ∷ rs) (suc i) h = ap (λ l. r ∷ l) (kept_all rs i (omega arith))
 
-  pub picked_none : (ws : List RuleWindow) (ms : List ℕ) → Picked ws ms (replicate most_rules 0) 0 0
-  unfolding masks_in_force padded
-  picked_none ws ms = record { upto = omega arith; counted = refl; stored = refl }
+  -- The rules of the first i that are in force, of which there are no more than i.
+  pub record Picked (rs : List kept.Rule) (picked : List LiteralSet) (i : ℕ) : Type 0 where
+    pub few : length picked ≤ i
+    pub is : picked ≡ kept_in_force moment (take i rs)
 
-  module _ (ws : List RuleWindow) (ms : List ℕ) (d : RuleWindow) {array : List ℕ} {count i : ℕ} (g : Picked ws ms array count i) (h : i < length ws)
-      (k : i < length ms) where
+  pub picked_none : (rs : List kept.Rule) {picked : List LiteralSet} → picked ≡ [] → Picked rs picked 0
+  unfolding kept_in_force
+  picked_none rs e = record { few = omega (arith, ap length e); is = e }
+
+  module _ (rs : List kept.Rule) (d : kept.Rule) {picked more : List LiteralSet} {i : ℕ} (g : Picked rs picked i) (h : i < length rs) where
     -- the next rule is in force
-    pub picked_more : in_force moment (get_or ws i d).applies ≡ true → count < most_rules → Picked ws ms (set array count (get_or ms i 0)) (count + 1) (i + 1)
-    picked_more e room =
-        let next : masks_in_force moment (take (suc i) ws) (take (suc i) ms) ≡ masks_in_force moment (take i ws) (take i ms) ++ (get_or ms i 0 ∷ []) =
-        masks_more ws ms i d h k ∙ rw e refl in
+    pub picked_more : in_force moment (get_or rs i d).applies ≡ true → more ≡ picked ++ (get_or rs i d).literals ∷ [] → Picked rs more (i + 1)
+    picked_more e p =
+        let next : kept_in_force moment (take (suc i) rs) ≡ kept_in_force moment (take i rs) ++ ((get_or rs i d).literals ∷ []) =
+        kept_more rs i d h ∙ rw e refl in
         record {
-          upto = omega (arith, g.upto);
-          counted = rw (add-one, next) (length-append (masks_in_force moment (take i ws) (take i ms)) _ ∙ ap (λ (n : ℕ). n + 1) g.counted);
-          stored = rw (add-one, next, g.stored) (rw (← g.counted) (padded_snoc 0 most_rules _ _ (omega (arith, g.counted))));
+          few = omega (arith, ap length p, length-append picked ((get_or rs i d).literals ∷ []), g.few);
+          is = rw (add-one, next) (p ∙ ap (λ l. l ++ (get_or rs i d).literals ∷ []) g.is);
         }
 
     -- it is not
-    pub picked_same : in_force moment (get_or ws i d).applies ≡ false → Picked ws ms array count (i + 1)
-    picked_same e =
-        let next : masks_in_force moment (take (suc i) ws) (take (suc i) ms) ≡ masks_in_force moment (take i ws) (take i ms) =
-        masks_more ws ms i d h k ∙ rw e (append-nil _) in
-        record { upto = omega (arith, g.upto); counted = rw (add-one, next) g.counted; stored = rw (add-one, next) g.stored }
+    pub picked_same : in_force moment (get_or rs i d).applies ≡ false → more ≡ picked → Picked rs more (i + 1)
+    picked_same e p =
+        let next : kept_in_force moment (take (suc i) rs) ≡ kept_in_force moment (take i rs) =
+        kept_more rs i d h ∙ rw e (append-nil _) in
+        record { few = omega (arith, ap length p, g.few); is = rw (add-one, next) (p ∙ g.is) }
 
-  -- the masks of the rules in force, from the windows and the masks of all rules
-  pub in_force_masks : (mask : List Literal → ℕ) (rs : List Rule)
-      → masks_in_force moment (map rule_window rs) (map (λ (r : Rule). mask r.literals) rs) ≡ map mask (rules_in_force moment rs)
-  unfolding masks_in_force rules_in_force
-  in_force_masks mask [] = refl
-  in_force_masks mask (r ∷ rs) = go (in_force moment r.applies) (in_force_masks mask rs)
+  pub picked_all : (rs : List kept.Rule) {picked : List LiteralSet} {i : ℕ} → Picked rs picked i → length rs ≤ i → picked ≡ kept_in_force moment rs
+  picked_all rs {i = i} g h = g.is ∙ ap (kept_in_force moment) (kept_all rs i h)
+
+  -- the masks of the rules in force, from the rules as they are kept
+  pub in_force_masks : (rs : List Rule) → kept_in_force moment (map kept_rule rs) ≡ map masks (rules_in_force moment rs)
+  unfolding kept_in_force rules_in_force
+  in_force_masks [] = refl
+  in_force_masks (r ∷ rs) = go (in_force moment r.applies) (in_force_masks rs)
     where
-      go : (b : Bool) → masks_in_force moment (map rule_window rs) (map (λ (k : Rule). mask k.literals) rs) ≡ map mask (rules_in_force moment rs)
-          → cond b (mask r.literals ∷ masks_in_force moment (map rule_window rs) (map (λ (k : Rule). mask k.literals) rs))
-          (masks_in_force moment (map rule_window rs) (map (λ (k : Rule). mask k.literals) rs))
-          ≡ map mask (cond b (r.literals ∷ rules_in_force moment rs) (rules_in_force moment rs))
-      go true e = ap (λ l. mask r.literals ∷ l) e
+      go : (b : Bool) → kept_in_force moment (map kept_rule rs) ≡ map masks (rules_in_force moment rs)
+          → cond b (masks r.literals ∷ kept_in_force moment (map kept_rule rs)) (kept_in_force moment (map kept_rule rs))
+          ≡ map masks (cond b (r.literals ∷ rules_in_force moment rs) (rules_in_force moment rs))
+      go true e = ap (λ l. masks r.literals ∷ l) e
       go false e = e
 
   -- they are no more than all rules
@@ -102,3 +101,5 @@ module _ (moment : Moment) where
   unfolding rules_in_force in_force
   always_in_force [] = refl
   always_in_force (l ∷ ls) = ap (λ k. l ∷ k) (always_in_force ls)
+
+pub ruleset picked_laws = (picked_none, picked_more, picked_same, picked_all)

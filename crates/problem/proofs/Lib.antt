@@ -1,4 +1,2 @@
-mod CopyLaws
 pub mod InForceLaws
 pub mod BookLaws
-pub mod SearchableLaws

@@ -1,62 +1,43 @@
--- A problem as the code holds it: each rule as two masks, in arrays with room for the most rules.
-use Rattle.std.specs.Prelude.{◌≡◌, cond, List, [], ◌∷◌, ◌++◌, ℕ, ◌^◌, ◌≤◌, ◌<◌, length, take, drop}
+-- A problem as the code holds it: each rule as two masks.
+use Rattle.std.specs.Prelude.{cond, List, [], ◌∷◌, ℕ, ◌^◌, ◌<◌}
 use Rattle.sets.specs.Sets.{full}
 use Rattle.dates.specs.Windows.{in_force}
 use Rattle.dates.specs.declared.Moment.{Moment}
+use Rattle.literals.specs.declared.LiteralSet.{LiteralSet}
 use Rattle.records.specs.declared.Book.{Book}
-use Rattle.records.specs.declared.RuleWindow.{RuleWindow}
-use Rattle.book.specs.Answer.{padded}
+use Rattle.records.specs.declared.Rule.{Rule}
+use Rattle.propagation.specs.Promises.{yes_masks, no_masks}
 use Rattle.sat.specs.Promises.{Posed}
-use Rattle.problem.specs.Limits.{most_rules}
 use Rattle.problem.specs.declared.MaskedProblem.{MaskedProblem}
-use Rattle.problem.specs.declared.RulesInForce.{RulesInForce}
 
--- The masks at the beginning of an array, and what stood there after them.
-abbrev pub copied_into : List ℕ → List ℕ → List ℕ
-copied_into masks all = masks ++ drop (length masks) all
-
--- Of masks, each with the window of its rule: those whose rules are in force.
-unfoldable pub masks_in_force : Moment → List RuleWindow → List ℕ → List ℕ
-masks_in_force moment (w ∷ ws) (m ∷ ms) = cond (in_force moment w.applies) (m ∷ masks_in_force moment ws ms) (masks_in_force moment ws ms)
-masks_in_force moment [] ms = []
-masks_in_force moment (w ∷ ws) [] = []
-
--- Of the masks of a book's rules, those of the rules in force.
-abbrev pub kept_in_force : Moment → Book → List ℕ → List ℕ
-kept_in_force moment b masks = masks_in_force moment (take b.rules b.windows) (take b.rules masks)
-
--- The rules in force of a book as it is kept, and zeros after their masks.
-abbrev pub rules_from : Moment → Book → RulesInForce
-rules_from moment b =
-    record {
-      rules = length (kept_in_force moment b b.yes);
-      yes = padded 0 most_rules (kept_in_force moment b b.yes);
-      no = padded 0 most_rules (kept_in_force moment b b.no);
-    }
+-- Of a book's rules as they are kept, the masks of those in force, in their order.
+unfoldable pub kept_in_force : Moment → List Rule → List LiteralSet
+kept_in_force moment [] = []
+kept_in_force moment (r ∷ rs) = cond (in_force moment r.applies) (r.literals ∷ kept_in_force moment rs) (kept_in_force moment rs)
 
 -- What is made of a book as it is kept.
 abbrev pub masked_from : Moment → Book → MaskedProblem
 masked_from moment b =
     record {
       variables = b.variables;
-      rules = (rules_from moment b).rules;
-      yes = (rules_from moment b).yes;
-      no = (rules_from moment b).no;
+      rules = record { items = kept_in_force moment b.rules.items };
       choices = full b.choices;
-      facts = record { yes = b.facts_yes; no = b.facts_no };
+      costs = b.costs;
+      facts = b.facts;
     }
 
 -- The masks of the rules, as a search is handed them.
 abbrev pub yes_in : MaskedProblem → List ℕ
-yes_in p = take p.rules p.yes
+yes_in p = yes_masks p.rules.items
 
 abbrev pub no_in : MaskedProblem → List ℕ
-no_in p = take p.rules p.no
+no_in p = no_masks p.rules.items
+
+-- What is said of a number of variables and of rules, as said of a problem.
+abbrev pub of_rules : {A : Type 1} → (ℕ → List ℕ → List ℕ → A) → MaskedProblem → A
+of_rules P p = P p.variables (yes_in p) (no_in p)
 
 -- A problem that a search can be made of.
 pub record Searchable (p : MaskedProblem) : Type 0 where
-  pub few_rules : p.rules ≤ most_rules
-  pub yes_room : length p.yes ≡ most_rules
-  pub no_room : length p.no ≡ most_rules
   pub choices_below : p.choices < 2 ^ p.variables
   pub posed : Posed p.variables (yes_in p) (no_in p) p.facts.yes p.facts.no

@@ -1,35 +1,55 @@
 -- `book::read` meets its contract. Assumes nothing.
-use Rattle.std.proofs.Common.{◌∙◌, arith}
-use Rattle.records.specs.Format.{read_book, cost_from}
+use Rattle.std.proofs.Common.{arith, rules}
+use Rattle.records.specs.Format.{read_book}
+use Rattle.records.specs.Promises.{counts}
+use Rattle.records.proofs.CheckLaws.{residual_err}
+use Rattle.records.proofs.ReadLaws.{begin_err}
 use Rattle.book.specs.Answer.{book_answer}
-use Rattle.book.proofs.BookLaws.{place_refused, place_at, costs_beside}
-use Rattle.book.proofs.CostLaws.{GoodCost, cost_read}
-use Rattle.book.proofs.HeaderLaws.{header_fails, header_says}
-use Rattle.book.proofs.ValueLaws.{many_good}
+use Rattle.book.proofs.BookLaws.{header_says, refused_at_cost, rules_within, refused_at_rule, facts_within, refused_at_fact, refused_at_end, accepted}
 use Rattle.book.proofs.read.Goals as goal
 
-pub check_costs-requires : goal.check_costs-requires
+pub returns-in_err-counts : goal.returns-in_err-counts
 unfolding read_book book_answer
-check_costs-requires c = (header_says _ c.read_header.ensures c.in-Says.is).whole.within
+returns-in_err-counts c =
+    residual_err _ c.from_residual.ensures.1 (begin_err counts _ c.read_header.ensures _ c.in_err-counts.ensures.cases (λ kind p. search rules) _ _)
 
-pub read_from_rules-requires : goal.read_from_rules-requires
-read_from_rules-requires c = let h = (header_says _ c.read_header.ensures c.in-Says.is).whole in
-    let costs = place_at _ c.check_costs.ensures c.in-At.is in
-    let w = (many_good (cost_from _) _ GoodCost (λ i place c next k e. (cost_read _ i place k e).1) _ _ _ h.within costs.1).within in
-    record { variables_le_width = omega (arith, h.good.few_variables); choices_le_width = omega (arith, h.good.few_choices); rules_le_max_rules = h.good.few_rules; from_in_bounds = w }
+pub read_costs_from-requires : goal.read_costs_from-requires
+read_costs_from-requires c =
+    let h = header_says _ c.read_header.ensures c.in_ok-counts.ensures.cases in
+    record { choices_le_max_choices = h.few.few_choices; from_in_bounds = h.within }
 
-pub returns-in-Fails : goal.returns-in-Fails
-unfolding read_book book_answer
-returns-in-Fails c = rw (header_fails _ c.read_header.ensures c.in-Fails.is) c.refuse.ensures
+pub returns-in_err-costs : goal.returns-in_err-costs
+returns-in_err-costs c =
+    let h = header_says _ c.read_header.ensures c.in_ok-counts.ensures.cases in
+    residual_err _ c.from_residual-in_err-costs.ensures.1 (refused_at_cost _ h c.in_err-costs.ensures)
 
-pub returns-in-Refused : goal.returns-in-Refused
-unfolding read_book book_answer
-returns-in-Refused c = rw (
-  (header_says _ c.read_header.ensures c.in-Says.is).said,
-  place_refused _ c.check_costs.ensures c.in-Refused.is,
-) c.refuse-in-Refused.ensures
+pub read_rules-requires : goal.read_rules-requires
+read_rules-requires c =
+    let h = header_says _ c.read_header.ensures c.in_ok-counts.ensures.cases in
+    record { n_le_width = omega (arith, h.few.few_variables); count_le_max_rules = h.few.few_rules; from_in_bounds = rules_within _ h c.in_ok-costs.ensures }
 
-pub returns-in-At : goal.returns-in-At
-unfolding read_book book_answer
-returns-in-At c = let m = place_at _ c.check_costs.ensures c.in-At.is in
-    rw ((header_says _ c.read_header.ensures c.in-Says.is).said, m.1) (c.read_from_rules.ensures ∙ costs_beside _ _ m.0 _)
+pub returns-in_err-rules : goal.returns-in_err-rules
+returns-in_err-rules c =
+    let h = header_says _ c.read_header.ensures c.in_ok-counts.ensures.cases in
+    residual_err _ c.from_residual-in_err-rules.ensures.1 (refused_at_rule _ h c.in_ok-costs.ensures c.in_err-rules.ensures)
+
+pub read_facts-requires : goal.read_facts-requires
+read_facts-requires c =
+    let h = header_says _ c.read_header.ensures c.in_ok-counts.ensures.cases in
+    record { u_le_width = omega (arith, h.few.few_choices); from_in_bounds = facts_within _ h c.in_ok-costs.ensures c.in_ok-rules.ensures }
+
+pub returns-in_err-facts : goal.returns-in_err-facts
+returns-in_err-facts c =
+    let h = header_says _ c.read_header.ensures c.in_ok-counts.ensures.cases in
+    residual_err _ c.from_residual-in_err-facts.ensures.1
+    (refused_at_fact _ h c.in_ok-costs.ensures c.in_ok-rules.ensures c.in_err-facts.ensures)
+
+pub returns-then-end-s : goal.returns-then-end-s
+returns-then-end-s c =
+    let h = header_says _ c.read_header.ensures c.in_ok-counts.ensures.cases in
+    refused_at_end _ h c.in_ok-costs.ensures c.in_ok-rules.ensures c.in_ok-facts.ensures c.if-end-s.true c.at.ensures
+
+pub returns : goal.returns
+returns c =
+    let h = header_says _ c.read_header.ensures c.in_ok-counts.ensures.cases in
+    accepted _ h c.in_ok-costs.ensures c.in_ok-rules.ensures c.in_ok-facts.ensures c.if-end-s.false

@@ -1,11 +1,6 @@
--- `problem::rules_in_force` meets its contract. Assumes nothing.
-use Rattle.std.proofs.Common.{◌-◌, ◌≤◌}
+-- `problem::rules_in_force` meets its contract. The invariant: the rules gone over that are in force. Assumes nothing.
 use Rattle.problem.proofs.InForceLaws.{Picked}
 use Rattle.problem.proofs.rules_in_force.Given as goal
 
-abbrev pub invariant-loop-i : goal.invariant-loop-i
-invariant-loop-i l =
-    (l.i ≤ l.b.rules) × Picked l.moment l.windows l.book_yes l.yes l.rules l.i × Picked l.moment l.windows l.book_no l.no l.rules l.i
-
-abbrev pub decreases-loop-i : goal.decreases-loop-i
-decreases-loop-i l = l.b.rules - l.i
+abbrev pub invariant-loop-rule : goal.invariant-loop-rule
+invariant-loop-rule l = Picked l.moment l.b.rules.items l.rules.items l.rule-index

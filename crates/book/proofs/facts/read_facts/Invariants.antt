@@ -3,8 +3,8 @@ use Rattle.std.proofs.Common.{◌-◌, length}
 use Rattle.book.proofs.FactLaws.{FactsWalked}
 use Rattle.book.proofs.facts.read_facts.Given as goal
 
-abbrev pub invariant-loop-set : goal.invariant-loop-set
-invariant-loop-set l = FactsWalked l.s l.u l.from l.set l.last l.place
+abbrev pub invariant-loop-place : goal.invariant-loop-place
+invariant-loop-place l = FactsWalked l.s l.u l.from l.set l.last l.place
 
-abbrev pub decreases-loop-set : goal.decreases-loop-set
-decreases-loop-set l = length l.s - l.place
+abbrev pub decreases-loop-place : goal.decreases-loop-place
+decreases-loop-place l = length l.s - l.place

@@ -1,38 +1,43 @@
 -- `book::rules::read_rule_from` meets its contract. Assumes nothing.
-use Rattle.std.proofs.Common.{refl, ap, arith}
-use Rattle.book.specs.Promises.{rule_from_answer}
-use Rattle.book.specs.declared.rules.RuleFrom.TheVariants as RuleFrom
-use Rattle.book.proofs.ManyLaws.{part_within}
-use Rattle.book.proofs.RuleLaws.{rule_fails, rule_says, rule_refused, rule_then}
-use Rattle.book.proofs.WindowLaws.{window_from_refused, window_from_says}
+use Rattle.std.proofs.Common.{ap, ap₂, arith, rules}
+use lib.ListN.{length-drop}
+use Rattle.records.specs.Format.{rule_at, rule_from}
+use Rattle.records.specs.Promises.{masks_and_length}
+use Rattle.records.proofs.CheckLaws.{residual_err}
+use Rattle.records.proofs.ReadLaws.{at_place, value_answer, begin_err, begin_ok, then_err, then_ok}
+use Rattle.book.specs.Answer.{kept_rule}
+use Rattle.book.proofs.RuleLaws.{rule_whole, rule_then}
 use Rattle.book.proofs.rules.read_rule_from.Goals as goal
+
+pub returns-in_err-rule : goal.returns-in_err-rule
+unfolding rule_from
+returns-in_err-rule c =
+    let e = at_place masks_and_length (rule_at _) c.args.s.now c.args.from c.read_rule.ensures in
+    residual_err _ c.from_residual.ensures.1 (begin_err _ _ e _ c.in_err-rule.ensures.cases (λ kind p. search rules) _ _)
 
 -- the place after the rule is one of the bytes
 pub overflow_add-from : goal.overflow_add-from
-overflow_add-from c = let w = rule_says _ _ c.read_rule.ensures c.in-Says.is in
-    omega (
-      arith,
-      part_within c.args.s.now _ c.requires.from_in_bounds
-          w.within,
-    )
+overflow_add-from c =
+    let e = at_place masks_and_length (rule_at _) c.args.s.now c.args.from c.read_rule.ensures in
+    let p = begin_ok _ _ e c.in_ok-rule.ensures.cases in
+    omega (arith, (rule_whole _ _ p.2).1.within, c.requires.from_in_bounds, length-drop c.args.from c.args.s.now, ap (λ k. k.len) p.3)
 
 pub read_window_from-requires : goal.read_window_from-requires
-read_window_from-requires c = let w = rule_says _ _ c.read_rule.ensures c.in-Says.is in
-    part_within c.args.s.now _ c.requires.from_in_bounds w.within
+read_window_from-requires c =
+    let e = at_place masks_and_length (rule_at _) c.args.s.now c.args.from c.read_rule.ensures in
+    let p = begin_ok _ _ e c.in_ok-rule.ensures.cases in
+    omega (arith, (rule_whole _ _ p.2).1.within, c.requires.from_in_bounds, length-drop c.args.from c.args.s.now, ap (λ k. k.len) p.3)
 
-pub returns-in-Fails : goal.returns-in-Fails
-unfolding rule_from_answer
-returns-in-Fails c = rw (rule_refused _ _ _ (rule_fails _ c.read_rule.ensures c.in-Fails.is)) refl
+pub returns-in_err-applies : goal.returns-in_err-applies
+unfolding rule_from
+returns-in_err-applies c =
+    let e = at_place masks_and_length (rule_at _) c.args.s.now c.args.from c.read_rule.ensures in
+    let p = begin_ok _ _ e c.in_ok-rule.ensures.cases in
+    residual_err _ c.from_residual-in_err-applies.ensures.1 (rw p.2 (then_err (λ applies next. (applies, next)) _ _ _ (rw p.3 at c.in_err-applies.ensures)))
 
-pub returns-in-Refused : goal.returns-in-Refused
-unfolding rule_from_answer
-returns-in-Refused c = let w = rule_says _ _ c.read_rule.ensures
-    c.in-Says.is in
-    rw (rule_then _ _ _ w.said, window_from_refused _ c.read_window_from.ensures c.in-Refused.is) refl
-
-pub returns-in-Says-read_window_from : goal.returns-in-Says-read_window_from
-unfolding rule_from_answer
-returns-in-Says-read_window_from c = let w = rule_says _ _ c.read_rule.ensures
-    c.in-Says.is in
-    rw (rule_then _ _ _ w.said, window_from_says _ c.read_window_from.ensures c.in-Says-read_window_from.is)
-    (ap (λ t. RuleFrom.Says t c.in-Says-read_window_from.applies c.in-Says-read_window_from.next) w.holds)
+pub returns : goal.returns
+returns c =
+    let e = at_place masks_and_length (rule_at _) c.args.s.now c.args.from c.read_rule.ensures in
+    let p = begin_ok _ _ e c.in_ok-rule.ensures.cases in
+    let q = then_ok (λ applies next. (applies, next)) _ (rw p.3 at c.in_ok-applies.ensures) in
+    value_answer (λ r next. (kept_rule r, next)) (rule_then _ _ _ p.2 q.2) (ap₂ (λ k t. (record { literals = k.set; applies = t.0 }, t.1)) p.3 q.3)

@@ -1,26 +1,25 @@
 -- `dimacs::head::read_counts` meets its contract. Assumes nothing.
 use Rattle.std.proofs.Common.{refl}
-use Rattle.dimacs.specs.Text.{counts_from, limited}
-use Rattle.dimacs.specs.Promises.{head_answer}
-use Rattle.dimacs.proofs.ReadLaws.{place_refused, place_at, number_refused, number_says}
+use Rattle.records.specs.Promises.{read_answer}
+use Rattle.records.proofs.RowLaws.{stopped, passed_ok}
+use Rattle.dimacs.specs.Text.{counts_from, count_from, limited}
+use Rattle.dimacs.specs.Promises.{head_read}
+use Rattle.dimacs.proofs.ReadLaws.{number_ok}
 use Rattle.dimacs.proofs.head.read_counts.Goals as goal
 
-pub returns-in-Refused : goal.returns-in-Refused
-unfolding counts_from limited head_answer
-returns-in-Refused c = rw (number_refused _ c.read_up_to.ensures c.in-Refused.is) refl
+pub returns-in_err-variables : goal.returns-in_err-variables
+unfolding counts_from count_from limited
+returns-in_err-variables c = stopped _ _ head_read c.in_err-variables.ensures c.from_residual.ensures.1 _
 
-pub returns-in-Refused-one_or_more : goal.returns-in-Refused-one_or_more
-unfolding counts_from limited head_answer
-returns-in-Refused-one_or_more c = rw (
-  number_says _ c.read_up_to.ensures
-      c.in-Says.is,
-  place_refused _ c.one_or_more.ensures c.in-Refused-one_or_more.is,
-) refl
+pub returns-in_err-place : goal.returns-in_err-place
+unfolding counts_from count_from limited
+returns-in_err-place c = rw (number_ok _ c.in_ok-variables.ensures) (stopped _ _ head_read c.in_err-place.ensures c.from_residual-in_err-place.ensures.1 _)
 
-pub returns-in-At : goal.returns-in-At
-unfolding counts_from limited head_answer
-returns-in-At c = rw (
-  number_says _ c.read_up_to.ensures
-      c.in-Says.is,
-  (place_at _ c.one_or_more.ensures c.in-At.is).1,
-) c.read_clause_count.ensures
+pub returns-in_err-clauses : goal.returns-in_err-clauses
+unfolding counts_from count_from limited
+returns-in_err-clauses c =
+    rw (number_ok _ c.in_ok-variables.ensures, passed_ok _ c.in_ok-place.ensures) (stopped _ _ head_read c.in_err-clauses.ensures c.from_residual-in_err-clauses.ensures.1 _)
+
+pub returns : goal.returns
+unfolding counts_from count_from limited read_answer
+returns c = rw (number_ok _ c.in_ok-variables.ensures, passed_ok _ c.in_ok-place.ensures, number_ok _ c.in_ok-clauses.ensures) refl

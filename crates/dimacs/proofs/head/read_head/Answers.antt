@@ -1,38 +1,22 @@
 -- `dimacs::head::read_head` meets its contract. Assumes nothing.
-use Rattle.std.proofs.Common.{refl}
+use Rattle.records.proofs.RowLaws.{stopped, passed_ok}
 use Rattle.dimacs.specs.Text.{head_of}
-use Rattle.dimacs.specs.Promises.{head_answer}
-use Rattle.dimacs.proofs.ReadLaws.{place_refused, place_at}
+use Rattle.dimacs.specs.Promises.{head_read}
 use Rattle.dimacs.proofs.head.read_head.Goals as goal
 
-pub returns-in-Refused : goal.returns-in-Refused
-unfolding head_of head_answer
-returns-in-Refused c = rw (place_refused _ c.skip_comments.ensures c.in-Refused.is) refl
+pub returns-in_err-skipped : goal.returns-in_err-skipped
+unfolding head_of
+returns-in_err-skipped c = stopped _ _ head_read c.in_err-skipped.ensures c.from_residual.ensures.1 _
 
-pub returns-in-Refused-word_and_blanks : goal.returns-in-Refused-word_and_blanks
-unfolding head_of head_answer
-returns-in-Refused-word_and_blanks c = rw (
-  (place_at _ c.skip_comments.ensures
-      c.in-At.is).1,
-  place_refused _ c.word_and_blanks.ensures c.in-Refused-word_and_blanks.is,
-) refl
+pub returns-in_err-marked : goal.returns-in_err-marked
+unfolding head_of
+returns-in_err-marked c = rw (passed_ok _ c.in_ok-skipped.ensures) (stopped _ _ head_read c.in_err-marked.ensures c.from_residual-in_err-marked.ensures.1 _)
 
-pub returns-in-Refused-word_and_blanks-2 : goal.returns-in-Refused-word_and_blanks-2
-unfolding head_of head_answer
-returns-in-Refused-word_and_blanks-2 c = rw (
-  (place_at _ c.skip_comments.ensures
-      c.in-At.is).1,
-  (place_at _ c.word_and_blanks.ensures
-      c.in-At-word_and_blanks.is).1,
-  place_refused _ c.word_and_blanks-in-At-word_and_blanks.ensures c.in-Refused-word_and_blanks-2.is,
-) refl
+pub returns-in_err-named : goal.returns-in_err-named
+unfolding head_of
+returns-in_err-named c =
+    rw (passed_ok _ c.in_ok-skipped.ensures, passed_ok _ c.in_ok-marked.ensures) (stopped _ _ head_read c.in_err-named.ensures c.from_residual-in_err-named.ensures.1 _)
 
-pub returns-in-At-word_and_blanks-2 : goal.returns-in-At-word_and_blanks-2
-unfolding head_of head_answer
-returns-in-At-word_and_blanks-2 c = rw (
-  (place_at _ c.skip_comments.ensures
-      c.in-At.is).1,
-  (place_at _ c.word_and_blanks.ensures
-      c.in-At-word_and_blanks.is).1,
-  (place_at _ c.word_and_blanks-in-At-word_and_blanks.ensures c.in-At-word_and_blanks-2.is).1,
-) c.read_counts.ensures
+pub returns : goal.returns
+unfolding head_of
+returns c = rw (passed_ok _ c.in_ok-skipped.ensures, passed_ok _ c.in_ok-marked.ensures, passed_ok _ c.in_ok-named.ensures) c.read_counts.ensures

@@ -3,8 +3,8 @@ use Rattle.std.proofs.Common.{◌-◌, length}
 use Rattle.dimacs.proofs.HeadLaws.{Skipped}
 use Rattle.dimacs.proofs.head.skip_comments.Given as goal
 
-abbrev pub invariant-loop-number : goal.invariant-loop-number
-invariant-loop-number l = Skipped l.s l.at
+abbrev pub invariant-loop-at : goal.invariant-loop-at
+invariant-loop-at l = Skipped l.s l.at
 
-abbrev pub decreases-loop-number : goal.decreases-loop-number
-decreases-loop-number l = length l.s - l.at
+abbrev pub decreases-loop-at : goal.decreases-loop-at
+decreases-loop-at l = length l.s - l.at

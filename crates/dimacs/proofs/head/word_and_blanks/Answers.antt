@@ -1,13 +1,13 @@
 -- `dimacs::head::word_and_blanks` meets its contract. Assumes nothing.
-use Rattle.std.proofs.Common.{sym, ap, ◌∙◌}
-use Rattle.book.specs.Promises.{place_answer}
-use Rattle.dimacs.proofs.HeadLaws.{word_wrong, word_passed}
+use Rattle.records.specs.Promises.{place_after}
+use Rattle.records.proofs.RowLaws.{stopped, passed_ok}
+use Rattle.dimacs.specs.Text.{word_and_blanks}
 use Rattle.dimacs.proofs.head.word_and_blanks.Goals as goal
 
-pub returns-in-Refused : goal.returns-in-Refused
-unfolding place_answer
-returns-in-Refused c = sym (ap place_answer (word_wrong _ _ _ c.read_word.ensures c.in-Refused.is))
+pub returns-in_err-place : goal.returns-in_err-place
+unfolding word_and_blanks
+returns-in_err-place c = stopped _ _ place_after c.in_err-place.ensures c.from_residual.ensures.1 _
 
-pub returns-in-At : goal.returns-in-At
-returns-in-At c = c.one_or_more.ensures
-    ∙ sym (ap place_answer (word_passed _ _ _ c.read_word.ensures c.in-At.is))
+pub returns : goal.returns
+unfolding word_and_blanks
+returns c = rw (passed_ok _ c.in_ok-place.ensures) c.one_or_more.ensures

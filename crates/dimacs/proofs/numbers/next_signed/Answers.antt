@@ -1,14 +1,13 @@
 -- `dimacs::numbers::next_signed` meets its contract. Assumes nothing.
-use Rattle.std.proofs.Common.{refl}
+use Rattle.records.proofs.RowLaws.{stopped, passed_ok}
 use Rattle.dimacs.specs.Text.{next_signed}
-use Rattle.dimacs.specs.Promises.{literal_answer}
-use Rattle.dimacs.proofs.ReadLaws.{place_refused, place_at}
+use Rattle.dimacs.specs.Promises.{literal_read}
 use Rattle.dimacs.proofs.numbers.next_signed.Goals as goal
 
-pub returns-in-Refused : goal.returns-in-Refused
-unfolding next_signed literal_answer
-returns-in-Refused c = rw (place_refused _ c.one_or_more.ensures c.in-Refused.is) refl
+pub returns-in_err-place : goal.returns-in_err-place
+unfolding next_signed
+returns-in_err-place c = stopped _ _ literal_read c.in_err-place.ensures c.from_residual.ensures.1 _
 
-pub returns-in-At : goal.returns-in-At
-unfolding next_signed literal_answer
-returns-in-At c = rw (place_at _ c.one_or_more.ensures c.in-At.is).1 c.read_signed.ensures
+pub returns : goal.returns
+unfolding next_signed
+returns c = rw (passed_ok _ c.in_ok-place.ensures) c.read_signed.ensures

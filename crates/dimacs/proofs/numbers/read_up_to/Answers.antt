@@ -1,19 +1,21 @@
 -- `dimacs::numbers::read_up_to` meets its contract. Assumes nothing.
-use Rattle.std.proofs.Common.{sym, ap}
-use Rattle.dimacs.specs.Promises.{number_answer}
-use Rattle.dimacs.proofs.NumberLaws.{up_to_refused, up_to_large, up_to_says}
+use Rattle.std.proofs.Common.{refl}
+use Rattle.records.specs.Promises.{read_answer}
+use Rattle.records.proofs.RefusalLaws.{kind_back}
+use Rattle.records.proofs.RowLaws.{stopped}
+use Rattle.dimacs.specs.Text.{number_up_to}
+use Rattle.dimacs.specs.Promises.{number_read}
+use Rattle.dimacs.proofs.NumberLaws.{up_to_large, up_to_says}
 use Rattle.dimacs.proofs.numbers.read_up_to.Goals as goal
 
-pub returns-then-most-value : goal.returns-then-most-value
-unfolding number_answer
-returns-then-most-value c = sym (ap number_answer (up_to_large _ _ _ _ _ c.read_number.ensures
-    c.requires c.in-Says.is c.if-most-value.true))
+pub returns-in_err-n : goal.returns-in_err-n
+unfolding number_up_to
+returns-in_err-n c = stopped _ _ number_read c.in_err-n.ensures c.from_residual.ensures.1 _
 
-pub returns-in-Refused : goal.returns-in-Refused
-unfolding number_answer
-returns-in-Refused c = sym (ap number_answer (up_to_refused _ _ _ _ _ c.read_number.ensures c.in-Refused.is))
+pub returns-then-most-n : goal.returns-then-most-n
+unfolding read_answer
+returns-then-most-n c = rw (up_to_large _ _ _ _ _ c.requires c.in_ok-n.ensures c.if-most-n.true, c.at.ensures, kind_back) refl
 
-pub returns-else-most-value : goal.returns-else-most-value
-unfolding number_answer
-returns-else-most-value c = sym (ap number_answer (up_to_says _ _ _ _ _ c.read_number.ensures
-    c.requires c.in-Says.is c.if-most-value.false))
+pub returns : goal.returns
+unfolding read_answer
+returns c = rw (up_to_says _ _ _ _ _ c.requires c.in_ok-n.ensures c.if-most-n.false) refl
