@@ -1,4 +1,3 @@
-mod CopyLaws
 mod DenyLaws
 mod NarrowLaws
 pub mod SameFillings

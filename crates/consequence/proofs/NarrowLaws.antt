@@ -1,14 +1,13 @@
 -- The rounds of Algorithm 2, a law for each: the first model, one model more, and the end. Assumes nothing.
 use mathlib.Core.Path.{◌≡◌, refl, sym, ap, subst, ◌∙◌}
 use mathlib.Core.List.{List, [], ◌∷◌}
+use Rattle.std.specs.Prelude.{Option, Some, None}
 use Prim.Native.Nat.{ℕ, ◌+◌, ◌^◌, ◌≤◌, ◌<◌}
 use native.Mathlib.Omega.{arith}
 use lib.Count.{ones-le}
 use Rattle.literals.specs.declared.LiteralSet.{LiteralSet}
 use Rattle.sat.specs.Promises.{Searched}
 use Rattle.sat.specs.Laws.Searches.{searched_model, searched_none}
-use Rattle.sat.specs.declared.SearchResult.{SearchResult}
-use Rattle.sat.specs.declared.SearchResult.TheVariants.{Found, Nothing}
 use Rattle.consequence.specs.Meaning.{ModelOf}
 use Rattle.consequence.specs.Algorithm2.{common_yes, common_no, over_choices, in_both, size, Denies, FoundInTurn, Narrowing, Narrowed}
 use Rattle.consequence.specs.Promises.{mask_theory, Denied, Concluded}
@@ -16,7 +15,6 @@ use Rattle.consequence.specs.Laws.Common.{common_one, common_more, kept_common, 
 use Rattle.consequence.specs.Laws.Algorithm2.{found_bounded, one_more_found, narrowed_forced}
 use Rattle.consequence.specs.Laws.Forcing.{collect_lt, none_contradicts, model_contradicts}
 use Rattle.consequence.specs.Laws.Masks.{to_theory, of_theory, none_to_theory}
-use Rattle.consequence.specs.declared.Consequence.TheVariants.{NoModel, Forced}
 
 -- So many models of the rules and the set were found, and these literals are kept.
 abbrev pub Round : ℕ → List ℕ → List ℕ → ℕ → ℕ → ℕ → ℕ → LiteralSet → Type 0
@@ -36,12 +34,12 @@ module _ {n ch number : ℕ} {model : ℕ → Type 0} {kept : LiteralSet} (w : N
   number_most below = omega (arith, w.at_most, ones-le n ch below)
 
 -- no model at all
-pub round_none : {n : ℕ} {ys ns : List ℕ} {ch on off : ℕ} {r : SearchResult} → Searched n ys ns on off r → r ≡ Nothing → Concluded n ys ns ch on off NoModel
+pub round_none : {n : ℕ} {ys ns : List ℕ} {ch on off : ℕ} {r : Option ℕ} → Searched n ys ns on off r → r ≡ None → Concluded n ys ns ch on off None
 round_none s e = record { said = none_contradicts _ _ _ (none_to_theory _ (searched_none s e)) }
 
 module _ {n : ℕ} {ys ns : List ℕ} {ch on off : ℕ} (below : ch < 2 ^ n) where
   -- the first model
-  pub round_first : {r : SearchResult} {m : ℕ} {kept : LiteralSet} → Searched n ys ns on off r → r ≡ Found m → kept ≡ over_choices ch m
+  pub round_first : {r : Option ℕ} {m : ℕ} {kept : LiteralSet} → Searched n ys ns on off r → r ≡ Some m → kept ≡ over_choices ch m
       → Round n ys ns ch on off 1 kept
   round_first {m = m} s f e = record {
     found = m ∷ [];
@@ -51,10 +49,10 @@ module _ {n : ℕ} {ys ns : List ℕ} {ch on off : ℕ} (below : ch < 2 ^ n) whe
     common = e ∙ common_one n ch below m;
   }
 
-  module _ {number : ℕ} {kept : LiteralSet} {r : SearchResult} (w : Round n ys ns ch on off number kept) (d : Denied n ys ns on off kept r) where
+  module _ {number : ℕ} {kept : LiteralSet} {r : Option ℕ} (w : Round n ys ns ch on off number kept) (d : Denied n ys ns on off kept r) where
     -- no model is left that denies a kept literal
-    pub round_last : {o : SearchResult} {m : ℕ} → Searched n ys ns on off o → o ≡ Found m → r ≡ Nothing
-        → Concluded n ys ns ch on off (Forced kept number)
+    pub round_last : {o : Option ℕ} {m : ℕ} → Searched n ys ns on off o → o ≡ Some m → r ≡ None
+        → Concluded n ys ns ch on off (Some (record { kept = kept; models = number }))
     round_last s g e =
         let left = (subst (Denied n ys ns on off kept) e d).said in
         let end : Narrowed n ch (ModelOf (mask_theory n ys ns ch) on off) number kept =
@@ -68,7 +66,7 @@ module _ {n : ℕ} {ys ns : List ℕ} {ch on off : ℕ} (below : ch < 2 ^ n) whe
         }
 
     -- one model more
-    module _ {m : ℕ} {said more : LiteralSet} (e : r ≡ Found m) (s : said ≡ over_choices ch m) (b : more ≡ in_both kept said) where
+    module _ {m : ℕ} {said more : LiteralSet} (e : r ≡ Some m) (s : said ≡ over_choices ch m) (b : more ≡ in_both kept said) where
       denies : Denies kept m
       denies = (subst (Denied n ys ns on off kept) e d).said.1
 

@@ -7,50 +7,61 @@
 // 3 and 8), and the clauses of earlier rounds are left out, because the last one implies them.
 #![tactic(auto)]
 
-ghost use Rattle.std.specs.Prelude.{◌≡◌, [], ◌∷◌, ◌++◌, ◌+◌, ◌^◌, ◌<◌, ◌≤◌, length, take};
+ghost use Rattle.std.specs.Prelude.{◌≡◌, [], ◌∷◌, ◌++◌, ◌^◌, ◌<◌, ◌≤◌, length};
+ghost use Rattle.propagation.specs.Promises.{yes_masks, no_masks};
 ghost use Rattle.problem.specs.Limits.{most_rules};
 ghost use Rattle.problem.specs.Masked.{yes_in, no_in, Searchable};
 ghost use Rattle.sat.specs.Promises.{Posed};
-ghost use Rattle.consequence.specs.Algorithm2.{over_choices, in_both};
+ghost use Rattle.consequence.specs.Algorithm2.{over_choices};
 ghost use Rattle.consequence.specs.Promises.{Denied, Concluded};
 
+use arrayvec::ArrayVec;
 use literals::LiteralSet;
 use problem::MaskedProblem;
-use sat::{Partial, SearchResult};
+use sat::Formula;
 
-// That there is no model, or the literals kept at the end, and how many models were found for it.
-#[derive(Clone, Copy)]
-pub enum Consequence {
-    NoModel,
-    Forced { kept: LiteralSet, models: u32 },
+// Room for the rules of a problem and one more.
+const ROOM: usize = MaskedProblem::RULES_AND_ONE;
+
+// What is forced: the literals kept at the end, and how many models were found for it.
+#[derive(Clone, Copy, Debug, PartialEq, Eq)]
+pub struct Forced {
+    pub kept: LiteralSet,
+    pub models: u32,
 }
 
-// The masks, and one more after the last.
-fn with_one_more(masks: &[u64], last: u64) -> [u64; MaskedProblem::RULES_AND_ONE]
-    requires { length masks.now ≤ most_rules }
-    ensures { take (length masks.now + 1) result ≡ masks.now ++ (last ∷ []) }
+// The rules, and one more after the last.
+fn with_one_more(rules: &[LiteralSet], last: LiteralSet) -> ArrayVec<LiteralSet, ROOM>
+    requires { length rules.now ≤ most_rules }
+    ensures { result.items ≡ rules.now ++ (last ∷ []) }
 {
-    let mut all = [0u64; MaskedProblem::RULES_AND_ONE];
-    problem::copy_masks(masks, &mut all);
-    all[masks.len()] = last;
+    let mut all = ArrayVec::new();
+    all.try_extend_from_slice(rules).unwrap();
+    all.push(last);
     all
 }
 
 // A model that denies some literal of a set, or that there is none. The values that deny the set are preferred, so that few
 // models are wanted.
-fn deny(n: u32, yes: &[u64], no: &[u64], p: Partial, kept: LiteralSet) -> SearchResult
-    requires posed { Posed n yes.now no.now p.on p.off }
-    requires yes_len_bound { length yes.now ≤ most_rules }
-    requires yes_bound { kept.yes < 2 ^ n }
-    requires no_bound { kept.no < 2 ^ n }
-    ensures { Denied n yes.now no.now p.on p.off kept result }
+fn deny(f: Formula, p: LiteralSet, kept: LiteralSet) -> Option<u64>
+    requires posed { Posed f.variables (yes_masks f.rules.now) (no_masks f.rules.now) p.yes p.no }
+    requires few_rules { length f.rules.now ≤ most_rules }
+    requires yes_bound { kept.yes < 2 ^ f.variables }
+    requires no_bound { kept.no < 2 ^ f.variables }
+    ensures { Denied f.entry.variables (yes_masks f.entry.rules.now) (no_masks f.entry.rules.now) p.yes p.no kept result }
 {
     // 5: C ← C ∧ (¬bᵢ ∨ ⋁ over x ∈ μ of ¬x)
-    let more_yes = with_one_more(yes, kept.no);
-    let more_no = with_one_more(no, kept.yes);
-    let rules = yes.len() + 1;
+    let clause = LiteralSet {
+        yes: kept.no,
+        no: kept.yes,
+    };
+    let rules = with_one_more(f.rules, clause);
     // 6: sat?, μ' ← SAT(I ∧ {bᵢ})
-    sat::search(n, &more_yes[..rules], &more_no[..rules], p, kept.no)
+    let more = Formula {
+        variables: f.variables,
+        rules: rules.as_slice(),
+    };
+    sat::search(more, p, kept.no)
 }
 
 // The literals over choices that are true in a model.
@@ -63,28 +74,16 @@ fn over_choices(m: u64, choices: u64) -> LiteralSet
     }
 }
 
-// The literals that are in both sets.
-fn in_both(a: LiteralSet, b: LiteralSet) -> LiteralSet
-    ensures { result ≡ in_both a b }
-{
-    LiteralSet {
-        yes: sets::intersection(a.yes, b.yes),
-        no: sets::intersection(a.no, b.no),
-    }
-}
-
 // The literals over choices that a set forces with the rules, or that no filling obeys the rules and makes the set true.
-pub fn propagate(n: u32, yes: &[u64], no: &[u64], choices: u64, p: Partial) -> Consequence
-    requires posed { Posed n yes.now no.now p.on p.off }
-    requires yes_len_bound { length yes.now ≤ most_rules }
-    requires choices_bound { choices < 2 ^ n }
-    ensures { Concluded n yes.now no.now choices p.on p.off result }
+#[tactic(auto, using(crate::proofs::NarrowLaws::round_laws))]
+pub fn propagate(f: Formula, choices: u64, p: LiteralSet) -> Option<Forced>
+    requires posed { Posed f.variables (yes_masks f.rules.now) (no_masks f.rules.now) p.yes p.no }
+    requires few_rules { length f.rules.now ≤ most_rules }
+    requires choices_bound { choices < 2 ^ f.variables }
+    ensures { Concluded f.entry.variables (yes_masks f.entry.rules.now) (no_masks f.entry.rules.now) choices p.yes p.no result }
 {
     // 1: sat?, μ ← SAT(I)
-    let first = sat::search(n, yes, no, p, 0);
-    let SearchResult::Found(m) = first else {
-        return Consequence::NoModel;
-    };
+    let m = sat::search(f, p, 0)?;
     // 2: μ ← {x | x ∈ μ : var(x) ∈ U}
     let mut kept = over_choices(m, choices);
     let mut models = 1u32;
@@ -92,27 +91,23 @@ pub fn propagate(n: u32, yes: &[u64], no: &[u64], choices: u64, p: Partial) -> C
     // 4: while true do
     loop {
         // 5, 6: C ← C ∧ (¬bᵢ ∨ ⋁ over x ∈ μ of ¬x); sat?, μ' ← SAT(I ∧ {bᵢ})
-        let next = deny(n, yes, no, p, kept);
+        let next = deny(f, p, kept);
         // 7: if ¬sat? then
-        let SearchResult::Found(m) = next else {
+        let Some(m) = next else {
             // 8: add clause (¬bᵢ) to SAT solver (the clause is gone with its search)
             // 9: return μ
-            return Consequence::Forced { kept, models };
+            return Some(Forced { kept, models });
         };
         // 11: μ ← μ ∩ {x' | x' ∈ μ' : var(x') ∈ U}
-        kept = in_both(kept, over_choices(m, choices));
-        models = models + 1;
+        kept = kept.intersection(over_choices(m, choices));
+        models += 1;
     }
 }
 
 // The same of a problem and its given facts.
-pub fn of_problem(p: MaskedProblem) -> Consequence
-    requires { Searchable p }
-    ensures { Concluded p.variables (yes_in p) (no_in p) p.choices p.facts.yes p.facts.no result }
+pub fn of_problem(p: &MaskedProblem) -> Option<Forced>
+    requires { Searchable p.now }
+    ensures { Concluded p.now.variables (yes_in p.now) (no_in p.now) p.now.choices p.now.facts.yes p.now.facts.no result }
 {
-    let yes = p.yes;
-    let no = p.no;
-    let rules = p.rules;
-    let given = propagation::of_literals(p.facts);
-    propagate(p.variables, &yes[..rules], &no[..rules], p.choices, given)
+    propagate(p.formula(), p.choices, p.facts)
 }

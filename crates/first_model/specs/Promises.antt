@@ -1,10 +1,8 @@
 -- What the functions of the first model ask and say.
-use Rattle.std.specs.Prelude.{◌≡◌, List, ℕ, ◌≤◌, ◌<◌}
+use Rattle.std.specs.Prelude.{◌≡◌, List, ℕ, ◌≤◌, ◌<◌, Option, Some, None}
 use Rattle.sets.specs.Sets.{full, union, inter, diff}
 use Rattle.sat.specs.Meaning.{Model, NoModel}
 use Rattle.sat.specs.Promises.{Posed}
-use Rattle.sat.specs.declared.SearchResult.{SearchResult}
-use Rattle.sat.specs.declared.SearchResult.TheVariants.{Found, Nothing}
 use Rattle.first_model.specs.Meaning.{weight, First}
 
 -- The partial filling (a, b) is (on, off) with the values that m gives to the first v variables.
@@ -24,9 +22,9 @@ pub record Lowering (n : ℕ) (ys ns : List ℕ) (on off m v : ℕ) : Type 0 whe
   pub up_to : FirstUpTo n ys ns on off v m
 
 -- What is found: the first model, or that there is none.
-abbrev pub FindsFirst : ℕ → List ℕ → List ℕ → ℕ → ℕ → SearchResult → Type 0
-FindsFirst n ys ns on off (Found f) = First (Model n ys ns on off) f
-FindsFirst n ys ns on off Nothing = NoModel n ys ns on off
+abbrev pub FindsFirst : ℕ → List ℕ → List ℕ → ℕ → ℕ → Option ℕ → Type 0
+FindsFirst n ys ns on off (Some f) = First (Model n ys ns on off) f
+FindsFirst n ys ns on off None = NoModel n ys ns on off
 
-pub record FirstSearched (n : ℕ) (ys ns : List ℕ) (on off : ℕ) (r : SearchResult) : Type 0 where
+pub record FirstSearched (n : ℕ) (ys ns : List ℕ) (on off : ℕ) (r : Option ℕ) : Type 0 where
   pub found : FindsFirst n ys ns on off r

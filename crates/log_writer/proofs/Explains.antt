@@ -1,6 +1,6 @@
 -- Demand 3 of the log that the meaning gives, for every proper problem with a model.
 -- Assumes nothing.
-use Rattle.std.specs.Prelude.{◌≡◌, true, false, cond, length}
+use Rattle.std.specs.Prelude.{◌≡◌, true, cond, length}
 use Rattle.std.proofs.Math.Path.{refl, sym}
 use Rattle.std.proofs.Common.{◌∙◌, pow_mono}
 use mathlib.Core.List.{List, [], ◌∷◌, ◌++◌, map}
@@ -33,7 +33,7 @@ use Rattle.log_form.specs.Laws.Reads.{AllFit, InForm, read_written}
 use Rattle.log_form.specs.Laws.Lists.{each_literal, list_length_is, list_rises}
 use Rattle.log_form.specs.Laws.Masks.{SameLiterals, same_listed, same_masks}
 use Rattle.log_writer.specs.Laws.Lists.{no_zero}
-use Rattle.log_writer.specs.Laws.OneStep.{filled_bit, bit_filled, goal_bit, choices_below, forced, demand, step_holds, cost_small, step_fits, same_more}
+use Rattle.log_writer.specs.Laws.OneStep.{filled_bit, bit_filled, goal_bit, forced, demand, step_holds, cost_small, step_fits, same_more}
 
 module _ {p : Problem} (w : ProperProblem p) (some : has_model p ≡ true) where
   -- ---- the whole log

@@ -7,7 +7,6 @@ use Prim.Native.Nat.{ℕ, zero, suc, ◌+◌, ◌-◌, ◌*◌, ◌^◌, ◌≤�
 use native.Mathlib.Nat.{zero-add}
 use native.Mathlib.Omega.{arith}
 use lib.Count.{ones-le}
-use lib.IntN.{ℤ}
 use lib.ListN.{length, length-append}
 use Rattle.sets.specs.Sets.{union, count, Within}
 use Rattle.sets.specs.Laws.Bits.{union_lt}
@@ -19,7 +18,8 @@ use Rattle.consequence.specs.Laws.Masks.{to_theory, of_theory}
 use Rattle.step.specs.Meaning.{Step, Answer, nothing_left, step, step_of, goals}
 use Rattle.step.specs.Promises.{Asked, mask_question, next_of}
 use Rattle.step.specs.Laws.TheStep.{asked_sound, goals_choices}
-use Rattle.step.specs.declared.Next.{Next}
+use Rattle.std.specs.Prelude.{Option, Some, None}
+use Rattle.log_form.specs.declared.Step as shown
 use Rattle.log_form.specs.Format.{records_bytes, ok_bytes, log_bytes}
 use Rattle.log_writer.specs.Meaning.{with_new, run_from, run_of, record_of, costs_written, log_of}
 use Rattle.log_writer.specs.Promises.{put_step, step_bytes, steps_bytes, total_of, LogAsked, LogWritten}
@@ -44,18 +44,18 @@ total_snoc (x ∷ ss) s = omega (arith, total_snoc ss s)
 -- ---- the next step's answer, taken back
 
 -- a step is made of the parts that were answered
-pub of_parts : {s : Step} {g : ℤ} {x y : LiteralSet} {k : ℕ} → s.goal ≡ g → record { yes = s.reasons_on; no = s.reasons_off } ≡ x
-    → record { yes = s.new_on; no = s.new_off } ≡ y → s.cost ≡ k → s ≡ put_step g x y k
+pub of_parts : {s : Step} {x : shown.Step} → s.goal ≡ x.goal → record { yes = s.reasons_on; no = s.reasons_off } ≡ x.reasons
+    → record { yes = s.new_on; no = s.new_off } ≡ x.new → s.cost ≡ x.cost → s ≡ put_step x
 of_parts a b c d = rw (← a, ← b, ← c, ← d) refl
 
-pub answered_step : (a : Answer) {g : ℤ} {x y : LiteralSet} {k : ℕ} {r : Next} → r ≡ next_of a → r ≡ Next.Step g x y k → a ≡ step (put_step g x y k)
+pub answered_step : (a : Answer) {x : shown.Step} {r : Option shown.Step} → r ≡ next_of a → r ≡ Some x → a ≡ step (put_step x)
 answered_step nothing_left e f = let z : ◌≡◌ {A = ℕ} 0 1 = cc in absurd (omega arith)
-answered_step (step s) {g} {x} {y} {k} e f = same (sym e ∙ f)
+answered_step (step s) {x} e f = same (sym e ∙ f)
   where
-    same : next_of (step s) ≡ Next.Step g x y k → step s ≡ step (put_step g x y k)
+    same : next_of (step s) ≡ Some x → step s ≡ step (put_step x)
     same h = ap step (of_parts (cc) (cc) (cc) (cc))
 
-pub answered_nothing : (a : Answer) {r : Next} → r ≡ next_of a → r ≡ Next.NothingLeft → a ≡ nothing_left
+pub answered_nothing : (a : Answer) {r : Option shown.Step} → r ≡ next_of a → r ≡ None → a ≡ nothing_left
 answered_nothing nothing_left e f = refl
 answered_nothing (step s) e f = let z : ◌≡◌ {A = ℕ} 0 1 = cc in absurd (omega arith)
 
@@ -68,7 +68,6 @@ module _ {n : ℕ} {ys ns : List ℕ} {ch : ℕ} {table : List (List ℕ)} {c fa
     asked_more = record {
       posed = a.posed;
       few = a.few;
-      short = a.short;
       choices_below = a.choices_below;
       rows = a.rows;
       yes_choices = a.yes_choices;
@@ -158,11 +157,10 @@ module _ {n : ℕ} {ys ns : List ℕ} {ch : ℕ} {table : List (List ℕ)} {c fa
       pub logging_room : at + length (step_bytes s) ≤ length bytes
       logging_room = omega (arith, bytes_room, w.short, step_open, step_short w.asked e)
 
-      pub logging_more : {out : List ℕ} {next y z : ℕ} → s.cost < 65536 → Put bytes at (step_bytes s) out next → y ≡ union known.yes s.new_on
-          → z ≡ union known.no s.new_off
-          → Logging before out next (record { yes = y; no = z }) (steps + 1) (total + s.cost)
+      pub logging_more : {out : List ℕ} {next : ℕ} → s.cost < 65536 → Put bytes at (step_bytes s) out next
+          → Logging before out next (record { yes = union known.yes s.new_on; no = union known.no s.new_off }) (steps + 1) (total + s.cost)
       unfolding run_from with_new
-      logging_more {out} {next} {y} {z} k p f g = rw (f, g) (record {
+      logging_more {out} {next} k p = record {
         taken = w.taken ++ (s ∷ []);
         turns = w.turns - 1;
         so_far = w.so_far ∙ ap (λ r. w.taken ++ r) (one (w.turns - 1) (omega (arith, goals_fewer w.asked e, w.enough)))
@@ -176,7 +174,7 @@ module _ {n : ℕ} {ys ns : List ℕ} {ch : ℕ} {table : List (List ℕ)} {c fa
         left = omega (arith, w.left, goals_fewer w.asked e);
         short = omega (arith, w.short, p.place, step_short w.asked e);
         cheap = omega (arith, w.cheap);
-      })
+      }
         where
           one : (t : ℕ) → w.turns ≡ suc t → run_from w.turns (mask_question n ys ns ch table c known)
               ≡ s ∷ run_from t (mask_question n ys ns ch table c (record { yes = union known.yes s.new_on; no = union known.no s.new_off }))

@@ -1,20 +1,20 @@
 -- What the functions of the log ask and say.
 use Rattle.std.specs.Prelude.{◌≡◌, List, ◌++◌, map, ℕ, ◌≤◌, length, drop}
-use Rattle.literals.specs.Literal.{Literal}
 use Rattle.literals.specs.declared.LiteralSet.{LiteralSet}
 use Rattle.records.specs.Limits.{max_log}
 use Rattle.consequence.specs.Promises.{mask_theory}
 use Rattle.step.specs.Meaning.{Step}
 use Rattle.step.specs.IsStep.{ForcedBy}
 use Rattle.step.specs.Promises.{Asked}
+use Rattle.log_form.specs.declared.Step as shown
 use Rattle.log_form.specs.Format.{record_bytes, records_bytes, log_bytes}
 use Rattle.log_writer.specs.Meaning.{record_of, costs_written, log_of}
 use Rattle.log_writer.specs.declared.Written.{Written}
 
 -- A step as its record's writer is handed it.
-abbrev pub put_step : Literal → LiteralSet → LiteralSet → ℕ → Step
-put_step goal reasons new cost =
-    record { goal = goal; reasons_on = reasons.yes; reasons_off = reasons.no; new_on = new.yes; new_off = new.no; cost = cost }
+abbrev pub put_step : shown.Step → Step
+put_step s =
+    record { goal = s.goal; reasons_on = s.reasons.yes; reasons_off = s.reasons.no; new_on = s.new.yes; new_off = s.new.no; cost = s.cost }
 
 -- The bytes of a step's record, and of several.
 abbrev pub step_bytes : Step → List ℕ

@@ -1,9 +1,19 @@
 -- What the functions of this crate ask and say.
-use Rattle.std.specs.Prelude.{◌≡◌, ℕ, ◌+◌, ◌^◌, ◌<◌, ◌≤◌, Bool, true, false, ◌⊎◌, List, length, ◌≢◌, slice_index}
+use Rattle.std.specs.Prelude.{◌≡◌, ℕ, ◌+◌, ◌^◌, ◌<◌, ◌≤◌, Bool, true, false, ◌⊎◌, List, length, map, ◌≢◌, slice_index}
 use Rattle.sets.specs.Sets.{width, bit, union, insert, remove, Within, Apart}
 use Rattle.literals.specs.Truth.{obeys_masks}
+use Rattle.literals.specs.declared.LiteralSet.{LiteralSet}
 use Rattle.propagation.specs.declared.pass.Look.{Look}
 use Rattle.propagation.specs.declared.pass.Pass.{Pass}
+
+-- ---- the two masks of each rule
+
+-- The variables that each rule says yes of, and those that each says no of.
+abbrev pub yes_masks : List LiteralSet → List ℕ
+yes_masks rules = map (λ r. r.yes) rules
+
+abbrev pub no_masks : List LiteralSet → List ℕ
+no_masks rules = map (λ r. r.no) rules
 
 -- ---- setting a variable
 

@@ -1,4 +1,6 @@
-// A partial filling, what a pass over the rules finds under it (unit propagation), and resolution.
+// Rules and partial fillings, what a pass over the rules finds under a partial filling (unit propagation), and resolution.
+// A rule is a set of literals, of which one must be true. A partial filling is the set of its true literals: the variables of
+// `yes` are yes, those of `no` are no, and the others are not set.
 #![tactic(auto)]
 
 ghost use Rattle.std.specs.Prelude.{◌≡◌, ◌<◌};
@@ -10,37 +12,28 @@ use literals::LiteralSet;
 pub mod pass;
 pub mod resolution;
 
-// A partial filling: the variables of `on` are yes, those of `off` are no, and the others are not set.
+// Rules over the variables below a number.
 #[derive(Clone, Copy)]
-pub struct Partial {
-    pub on: u64,
-    pub off: u64,
-}
-
-// The partial filling in which the literals of a set are true.
-pub fn of_literals(set: LiteralSet) -> Partial
-    ensures { result ≡ record { on = set.yes; off = set.no } }
-{
-    Partial {
-        on: set.yes,
-        off: set.no,
-    }
+pub struct Formula<'a> {
+    pub variables: u32,
+    pub rules: &'a [LiteralSet],
 }
 
 // The partial filling with variable `v` set.
-pub fn assign(p: Partial, v: u32, value: bool) -> Partial
+#[tactic(auto, using(crate::specs::Laws::Assigns::assign_laws))]
+pub fn assign(p: LiteralSet, v: u32, value: bool) -> LiteralSet
     requires { v < width }
-    ensures { Assigned p.on p.off v value result.on result.off }
+    ensures { Assigned p.yes p.no v value result.yes result.no }
 {
     if value {
-        Partial {
-            on: sets::insert(p.on, v),
-            off: p.off,
+        LiteralSet {
+            yes: sets::insert(p.yes, v),
+            ..p
         }
     } else {
-        Partial {
-            on: p.on,
-            off: sets::insert(p.off, v),
+        LiteralSet {
+            no: sets::insert(p.no, v),
+            ..p
         }
     }
 }

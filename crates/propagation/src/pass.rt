@@ -1,19 +1,12 @@
 // A pass over the rules under a partial filling: what each rule tells, and the variable to try where none forces one.
 ghost use Rattle.std.specs.Prelude.{◌≡◌, ◌<◌, ◌≤◌, length};
-ghost use Rattle.propagation.specs.Promises.{Looked, RuleAt, ToTry, Chosen, PassedRange, PassedAll};
+ghost use Rattle.propagation.specs.Promises.{yes_masks, no_masks, Looked, ToTry, Chosen, PassedRange, PassedAll};
 
-use crate::Partial;
-
-// A rule: a yes among the variables of `yes`, or a no among those of `no`.
-#[derive(Clone, Copy)]
-pub struct Rule {
-    pub yes: u64,
-    pub no: u64,
-}
+use literals::LiteralSet;
 
 // What a rule tells under a partial filling: that each of its literals is false; that all but one are, of a variable not
 // set; or neither, with its variables that are not set, none where a literal is true.
-#[derive(Clone, Copy)]
+#[derive(Clone, Copy, Debug, PartialEq, Eq)]
 enum Look {
     Conflict,
     Unit,
@@ -22,74 +15,48 @@ enum Look {
 
 // What a pass over the rules tells: a rule that is false; one that forces a variable, and the place after it; or neither,
 // with the variables not set of the rules that have no true literal.
-#[derive(Clone, Copy)]
+#[derive(Clone, Copy, Debug, PartialEq, Eq)]
 pub enum Pass {
-    Conflict(Rule),
-    Unit { rule: Rule, next: usize },
+    Conflict(LiteralSet),
+    Unit { rule: LiteralSet, next: usize },
     Quiet(u64),
 }
 
 // What one rule tells. Most rules have a true literal, or two variables or more that can still make one true, and one
 // test finds those.
-fn look_at(rule: Rule, p: Partial) -> Look
-    ensures { Looked rule.yes rule.no p.on p.off result }
+fn look_at(rule: LiteralSet, p: LiteralSet) -> Look
+    ensures { Looked rule.yes rule.no p.yes p.no result }
 {
-    let met = (p.on & rule.yes) | (p.off & rule.no);
-    let left = sets::difference(rule.yes, p.off) | sets::difference(rule.no, p.on);
-    let several = left & std::num::wrapping_sub_u64(left, 1);
+    let met = (p.yes & rule.yes) | (p.no & rule.no);
+    let left = sets::difference(rule.yes, p.no) | sets::difference(rule.no, p.yes);
+    let several = left & left.wrapping_sub(1);
     let quiet = met | several;
     if quiet != 0 {
-        return if met == 0 {
-            Look::Quiet(left)
-        } else {
-            Look::Quiet(0)
-        };
+        return Look::Quiet(if met == 0 { left } else { 0 });
     }
     if left == 0 {
         return Look::Conflict;
     }
-    if left != sets::single(sets::lowest(left)) {
-        return Look::Quiet(left);
-    }
     let both = rule.yes & rule.no;
-    if left & both != 0 {
+    if left != sets::single(sets::lowest(left)) || left & both != 0 {
         return Look::Quiet(left);
     }
     Look::Unit
 }
 
-// Rule i.
-fn rule_at(yes: &[u64], no: &[u64], i: usize) -> Rule
-    requires yes_len { length yes.now ≡ length no.now }
-    requires i_in_bounds { i < length yes.now }
-    ensures { RuleAt yes.now no.now i result.yes result.no }
-{
-    Rule {
-        yes: yes[i],
-        no: no[i],
-    }
-}
-
 // The rules from `start` to before `stop`, where those gone over before left the variables `pending`.
-fn scan_range(yes: &[u64], no: &[u64], p: Partial, start: usize, stop: usize, pending: u64) -> Pass
-    requires yes_len { length yes.now ≡ length no.now }
-    requires stop_in_bounds { stop ≤ length yes.now }
-    ensures { PassedRange start stop yes.now no.now p.on p.off pending result }
+#[tactic(auto, using(crate::specs::Laws::Scans::range_laws))]
+fn scan_range(rules: &[LiteralSet], p: LiteralSet, start: usize, stop: usize, pending: u64) -> Pass
+    requires { stop ≤ length rules.now }
+    ensures { PassedRange start stop (yes_masks rules.now) (no_masks rules.now) p.yes p.no pending result }
 {
     let mut all = pending;
-    let mut i = start;
-    while i < stop {
-        let rule = rule_at(yes, no, i);
-        i += 1;
+    for i in start..stop {
+        let rule = rules[i];
         match look_at(rule, p) {
             Look::Conflict => return Pass::Conflict(rule),
-            Look::Unit => return Pass::Unit {
-                rule: rule,
-                next: i,
-            },
-            Look::Quiet(left) => {
-                all = sets::union(all, left);
-            }
+            Look::Unit => return Pass::Unit { rule, next: i + 1 },
+            Look::Quiet(left) => all = sets::union(all, left),
         }
     }
     Pass::Quiet(all)
@@ -103,31 +70,26 @@ fn start_at(from: usize, rules: usize) -> usize
 }
 
 // One pass over all rules, from a place on and round to it again.
-pub fn scan(yes: &[u64], no: &[u64], p: Partial, from: usize) -> Pass
-    requires { length yes.now ≡ length no.now }
-    ensures { PassedAll yes.now no.now p.on p.off result }
+#[tactic(auto, using(crate::specs::Laws::Scans::scan_laws))]
+pub fn scan(rules: &[LiteralSet], p: LiteralSet, from: usize) -> Pass
+    ensures { PassedAll (yes_masks rules.now) (no_masks rules.now) p.yes p.no result }
 {
-    let rules = yes.len();
-    let start = start_at(from, rules);
-    match scan_range(yes, no, p, start, rules, 0) {
-        Pass::Conflict(rule) => Pass::Conflict(rule),
-        Pass::Unit { rule, next } => Pass::Unit { rule, next },
-        Pass::Quiet(pending) => scan_range(yes, no, p, 0, start, pending),
+    let start = start_at(from, rules.len());
+    match scan_range(rules, p, start, rules.len(), 0) {
+        Pass::Quiet(pending) => scan_range(rules, p, 0, start, pending),
+        found => found,
     }
 }
 
 // The variables not set of the shortest rule that has no true literal, among variables to try.
-fn shortest(yes: &[u64], no: &[u64], p: Partial, pending: u64) -> u64
-    requires yes_len { length yes.now ≡ length no.now }
-    requires to_try { ToTry yes.now no.now p.on p.off pending }
-    ensures { ToTry yes.now no.now p.on p.off result }
+#[tactic(auto, using(crate::specs::Laws::Scans::short_laws))]
+fn shortest(rules: &[LiteralSet], p: LiteralSet, pending: u64) -> u64
+    requires { ToTry (yes_masks rules.now) (no_masks rules.now) p.yes p.no pending }
+    ensures { ToTry (yes_masks rules.now) (no_masks rules.now) p.yes p.no result }
 {
     let mut pick = pending;
     let mut least = sets::count(pending);
-    let mut i = 0;
-    while i < yes.len() {
-        let rule = rule_at(yes, no, i);
-        i += 1;
+    for &rule in rules {
         if let Look::Quiet(left) = look_at(rule, p) {
             let size = sets::count(left);
             if left != 0 && size < least {
@@ -140,11 +102,9 @@ fn shortest(yes: &[u64], no: &[u64], p: Partial, pending: u64) -> u64
 }
 
 // The variable to try: the lowest of the shortest rule that has no true literal.
-pub fn choose(yes: &[u64], no: &[u64], p: Partial, pending: u64) -> u32
-    requires yes_len { length yes.now ≡ length no.now }
-    requires to_try { ToTry yes.now no.now p.on p.off pending }
-    ensures { Chosen yes.now no.now p.on p.off result }
+pub fn choose(rules: &[LiteralSet], p: LiteralSet, pending: u64) -> u32
+    requires { ToTry (yes_masks rules.now) (no_masks rules.now) p.yes p.no pending }
+    ensures { Chosen (yes_masks rules.now) (no_masks rules.now) p.yes p.no result }
 {
-    let short = shortest(yes, no, p, pending);
-    sets::lowest(short)
+    sets::lowest(shortest(rules, p, pending))
 }

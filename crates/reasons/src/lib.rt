@@ -4,56 +4,50 @@
 
 ghost use Rattle.std.specs.Prelude.{◌≡◌};
 ghost use Rattle.witnesses.specs.Promises.{Pooled};
-ghost use Rattle.reasons.specs.Promises.{Exploring, ItemFits, with_item, Explored};
+ghost use Rattle.reasons.specs.Promises.{of_rules, of_goal, Exploring, ItemFits, with_item, Explored};
 
-use book::Book;
+use records::Book;
 
 mod look;
 mod split;
 
-use split::Split;
-pub use witnesses::{Aim, Part, State};
+use sat::Formula;
+use split::Cut;
+pub use witnesses::{Aim, Part, Pool};
+
+// What the search for one goal does not change: the rules, the weights of the known literals, and the goal.
+#[derive(Clone, Copy)]
+pub struct Goal<'a> {
+    pub formula: Formula<'a>,
+    pub weights: &'a [u64; Book::MAX_CHOICES],
+    pub aim: Aim,
+}
 
 // The part of the sets with one item more.
-fn with_item(weights: &[u64; Book::MAX_CHOICES], part: Part, limit: u64, item: u32) -> Part
-    requires { ItemFits weights.now part item }
-    ensures { result ≡ with_item weights.now part limit item }
+fn with_item(weights: &[u64; Book::MAX_CHOICES], part: Part, cut: Cut) -> Part
+    requires { ItemFits weights.now part cut.item }
+    ensures { result ≡ with_item weights.now part cut.limit cut.item }
 {
-    let at = item as usize;
+    let at = cut.item as usize;
     Part {
-        chosen: sets::insert(part.chosen, item),
-        limit: limit,
+        chosen: sets::insert(part.chosen, cut.item),
+        limit: cut.limit,
         key: part.key + weights[at],
     }
 }
 
-// The least of the least key so far and the keys of the candidates in a part: at each split first those with the item, then
-// those without it.
-pub fn explore(
-    n: u32,
-    yes: &[u64],
-    no: &[u64],
-    weights: &[u64; Book::MAX_CHOICES],
-    pool: &mut [u64],
-    aim: Aim,
-    part: Part,
-    state: State,
-) -> State
-    requires exploring { Exploring n yes.now no.now weights.now aim part }
-    requires pooled { Pooled n yes.now no.now pool.old state.used }
-    ensures { Explored n yes.now no.now weights.now aim part state.best pool.new result }
+// The least of a key and the keys of the candidates in a part: at each cut first those with the item, then those without it.
+pub fn explore(goal: Goal, part: Part, pool: &mut Pool, best: u64) -> u64
+    requires exploring { of_goal Exploring goal part }
+    requires pooled { of_rules Pooled goal pool.old }
+    ensures { of_goal Explored goal.entry part best pool.new result }
 {
     let mut rest = part;
-    let mut now = state;
-    loop {
-        let seen = look::look_with_pool(n, yes, no, weights, pool, aim, rest, now);
-        match split::split_part(n, yes, no, weights, pool, aim, rest, seen) {
-            Split::Done(last) => return last,
-            Split::At { limit, item, state } => {
-                let with = with_item(weights, rest, limit, item);
-                now = explore(n, yes, no, weights, pool, aim, with, state);
-                rest.limit = sets::remove(limit, item);
-            }
-        }
+    let mut least = best;
+    while let Some(cut) = split::next_cut(goal, rest, pool, &mut least) {
+        let with = with_item(goal.weights, rest, cut);
+        least = explore(goal, with, pool, least);
+        rest.limit = sets::remove(cut.limit, cut.item);
     }
+    least
 }

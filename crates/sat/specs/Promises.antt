@@ -1,12 +1,10 @@
 -- What the functions of the search ask and say.
-use Rattle.std.specs.Prelude.{◌≡◌, true, List, ℕ, ◌+◌, ◌-◌, ◌^◌, ◌≤◌, ◌<◌, length}
+use Rattle.std.specs.Prelude.{◌≡◌, true, List, ℕ, ◌+◌, ◌-◌, ◌^◌, ◌≤◌, ◌<◌, length, Option, Some, None, Result, Ok, Err}
 use Rattle.sets.specs.Sets.{width, bit, union, count, Within, Apart}
 use Rattle.literals.specs.Truth.{obeys_masks}
+use Rattle.literals.specs.declared.LiteralSet.{LiteralSet}
 use Rattle.propagation.specs.Promises.{MasksBelow, ForcesOne, ToTry, Placed}
 use Rattle.sat.specs.Meaning.{obeys_all, Model, NoModel}
-use Rattle.sat.specs.declared.Branch.{Branch}
-use Rattle.sat.specs.declared.SearchResult.{SearchResult}
-use Rattle.sat.specs.declared.SearchResult.TheVariants.{Found, Nothing}
 
 -- ---- what is asked
 
@@ -59,11 +57,11 @@ pub record Trying (n : ℕ) (ys ns : List ℕ) (on off base x : ℕ) : Type 0 wh
   pub to_try : ToTry ys ns on off x
 
 -- What a branch gives: a model, or a rule that is implied and in its place.
-abbrev pub Ends : ℕ → List ℕ → List ℕ → ℕ → ℕ → ℕ → Branch → Type 0
-Ends n ys ns on off base (Branch.Model f) = Model n ys ns on off f
-Ends n ys ns on off base (Branch.Implied r) = Implied n ys ns r.yes r.no × Placed base r.yes r.no on off
+abbrev pub Ends : ℕ → List ℕ → List ℕ → ℕ → ℕ → ℕ → Result ℕ LiteralSet → Type 0
+Ends n ys ns on off base (Ok f) = Model n ys ns on off f
+Ends n ys ns on off base (Err r) = Implied n ys ns r.yes r.no × Placed base r.yes r.no on off
 
-pub record Followed (n : ℕ) (ys ns : List ℕ) (on off base : ℕ) (r : Branch) : Type 0 where
+pub record Followed (n : ℕ) (ys ns : List ℕ) (on off base : ℕ) (r : Result ℕ LiteralSet) : Type 0 where
   pub ends : Ends n ys ns on off base r
 
 -- A partial filling of n variables, which a mask has room for.
@@ -85,9 +83,9 @@ pub record Keeps (n : ℕ) (ys ns : List ℕ) (on off a b : ℕ) : Type 0 where
   pub back : (f : ℕ) → Model n ys ns a b f → Model n ys ns on off f
 
 -- What the search gives: a model, or that there is none. Which model is free.
-abbrev pub Finds : ℕ → List ℕ → List ℕ → ℕ → ℕ → SearchResult → Type 0
-Finds n ys ns on off (Found f) = Model n ys ns on off f
-Finds n ys ns on off Nothing = NoModel n ys ns on off
+abbrev pub Finds : ℕ → List ℕ → List ℕ → ℕ → ℕ → Option ℕ → Type 0
+Finds n ys ns on off (Some f) = Model n ys ns on off f
+Finds n ys ns on off None = NoModel n ys ns on off
 
-pub record Searched (n : ℕ) (ys ns : List ℕ) (on off : ℕ) (r : SearchResult) : Type 0 where
+pub record Searched (n : ℕ) (ys ns : List ℕ) (on off : ℕ) (r : Option ℕ) : Type 0 where
   pub found : Finds n ys ns on off r

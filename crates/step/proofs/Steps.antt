@@ -1,5 +1,5 @@
 -- The least key is the step: the answer in each case. Assumes nothing.
-use Rattle.std.specs.Prelude.{◌≡◌, Bool, true, List, ℕ, ◌/◌, ◌%◌, ◌≤◌, ◌<◌}
+use Rattle.std.specs.Prelude.{◌≡◌, Bool, true, List, ℕ, Option, Some, None, ◌/◌, ◌%◌, ◌≤◌, ◌<◌}
 use Rattle.std.proofs.Math.Path.{sym, ap, ap₂}
 use Rattle.std.proofs.Common.{subst, ◌∙◌, true≢false, arith}
 use Rattle.sets.specs.Sets.{bit, has, union, inter, diff, Within}
@@ -7,24 +7,24 @@ use Rattle.sets.specs.Laws.Bits.{bit_union, pos_of_member}
 use Rattle.sets.specs.Laws.Subset.{within_le, inter_in}
 use Rattle.literals.specs.Literal.{Literal, literal_of}
 use Rattle.literals.specs.declared.LiteralSet.{LiteralSet}
+use Rattle.literals.specs.LiteralSets as set
 use Rattle.sat.specs.Laws.Assigns.{posed_within}
 use Rattle.consequence.specs.Meaning.{contradicts, yes_forced, no_forced}
 use Rattle.consequence.specs.Promises.{mask_theory, Concluded}
 use Rattle.consequence.specs.Laws.Forcing.{model_contradicts}
 use Rattle.consequence.specs.Laws.Masks.{to_theory, of_theory}
-use Rattle.consequence.specs.declared.Consequence.{Consequence}
-use Rattle.consequence.specs.declared.Consequence.TheVariants.{NoModel as Contradiction, Forced}
+use Rattle.consequence.specs.declared.Forced.{Forced}
 use Rattle.step.specs.Meaning.{Question, yes_goals, no_goals, goals, goal_literal, reasons_on, reasons_off, candidate_cost, Candidate, candidate}
 use Rattle.step.specs.Meaning.{the_step, step, new_on, new_off, step_from, step_of}
 use Rattle.step.specs.IsStep.{Upto}
 use Rattle.step.specs.Promises.{goal_unit, cost_unit, set_room, goal_room, key_of, Small, mask_question, open_goals, Ready, ReadyWithGoal, Picks, GoalAndSet}
-use Rattle.step.specs.Promises.{key_of_pair, LeastFound, Reasoned, Learnt, Asked, Chosen, step_at, next_of}
+use Rattle.step.specs.Promises.{key_of_pair, LeastFound, Reasoned, Learnt, Asked, Chosen, step_at, answered, next_of}
 use Rattle.step.specs.Laws.Order.{upto_key, Decoded, decode}
 use Rattle.step.specs.Laws.Given.{model_fewer}
 use Rattle.step.specs.Laws.Candidates.{Stepped}
 use Rattle.step.specs.Laws.Goals.{goal_open, against_small}
 use Rattle.step.specs.Laws.TheStep.{taken, step_left, step_open, asked_sound}
-use Rattle.step.specs.declared.Next.{Next}
+use Rattle.log_form.specs.declared.Step as log
 
 -- The candidate that a key stands for is the step.
 pub record IsKeyOfStep (q : Question) (best : ℕ) : Type 0 where
@@ -112,27 +112,26 @@ pub reasoned_within : {n : ℕ} {ys ns : List ℕ} {ch : ℕ} {r s : LiteralSet}
 reasoned_within {ch = ch} y m x =
     record {
       posed = posed_within x.posed y m;
-      short = x.short;
       choices_below = x.choices_below;
       model = (x.model.0, of_theory ch (model_fewer y m x.model.0 (to_theory ch x.model.1)));
     }
 
-module _ {n : ℕ} {ys ns : List ℕ} {ch : ℕ} {reasons k : LiteralSet} {o : Consequence} where
+module _ {n : ℕ} {ys ns : List ℕ} {ch : ℕ} {reasons k : LiteralSet} {o : Option Forced} where
   -- the reasons have a model
-  pub learn_absurd : {r : LiteralSet} → Reasoned n ys ns ch reasons → Concluded n ys ns ch reasons.yes reasons.no o → o ≡ Contradiction
+  pub learn_absurd : {r : LiteralSet} → Reasoned n ys ns ch reasons → Concluded n ys ns ch reasons.yes reasons.no o → o ≡ None
       → Learnt n ys ns ch reasons k r
   learn_absurd x s e =
       let no_model : contradicts (mask_theory n ys ns ch) reasons.yes reasons.no ≡ true =
       (subst (Concluded n ys ns ch reasons.yes reasons.no) e s).said in
       absurd (true≢false (sym no_model ∙ model_contradicts (mask_theory n ys ns ch) reasons.yes reasons.no x.model.0 (to_theory ch x.model.1)))
 
-  pub learnt : {forced : LiteralSet} {number a b : ℕ} → Concluded n ys ns ch reasons.yes reasons.no o → o ≡ Forced forced number
-      → a ≡ diff forced.yes k.yes → b ≡ diff forced.no k.no → Learnt n ys ns ch reasons k (record { yes = a; no = b })
-  learnt s e p q =
+  pub learnt : {forced : Forced} {r : LiteralSet} → Concluded n ys ns ch reasons.yes reasons.no o → o ≡ Some forced
+      → r ≡ set.diff forced.kept k → Learnt n ys ns ch reasons k r
+  learnt s e p =
       let f = (subst (Concluded n ys ns ch reasons.yes reasons.no) e s).said.1 in
       record {
-        yes_new = p ∙ ap (λ (m : ℕ). diff m k.yes) f.yes_forced;
-        no_new = q ∙ ap (λ (m : ℕ). diff m k.no) f.no_forced;
+        yes_new = ap (λ (l : LiteralSet). l.yes) p ∙ ap (λ (m : ℕ). diff m k.yes) f.yes_forced;
+        no_new = ap (λ (l : LiteralSet). l.no) p ∙ ap (λ (m : ℕ). diff m k.no) f.no_forced;
         forced = _;
         number = _;
         propagated = f;
@@ -142,7 +141,7 @@ module _ {n : ℕ} {ys ns : List ℕ} {ch : ℕ} {reasons k : LiteralSet} {o : C
 
 module _ {n : ℕ} {ys ns : List ℕ} {ch : ℕ} {table : List (List ℕ)} {c k : LiteralSet} where
   pub answer_nothing : {g : ℕ} → Asked n ys ns ch table c k → g ≡ open_goals c k → g ≡ 0
-      → Next.NothingLeft ≡ next_of (step_of (mask_question n ys ns ch table c k))
+      → None ≡ next_of (step_of (mask_question n ys ns ch table c k))
   unfolding goals yes_goals no_goals
   answer_nothing a e d = sym (ap next_of (step_left (mask_question n ys ns ch table c k) (sym e ∙ d)))
 
@@ -158,13 +157,13 @@ module _ {n : ℕ} {ys ns : List ℕ} {ch : ℕ} {table : List (List ℕ)} {c k 
     answer_chosen =
         record {
           known = reasoned_within a.known_yes a.known_no
-              (record { posed = a.posed; short = a.short; choices_below = a.choices_below; model = a.model });
+              (record { posed = a.posed; choices_below = a.choices_below; model = a.model });
           cheap = omega (arith, picked.costs, (picks_small ch (asked_ready a) _ _ picked.picks).cost_small);
         }
 
-    pub answer_step : {r : Next} → r ≡ next_of (step (step_at n ys ns ch c k best)) → r ≡ next_of (step_of (mask_question n ys ns ch table c k))
+    pub answer_step : {r : log.Step} → r ≡ answered (step_at n ys ns ch c k best) → Some r ≡ next_of (step_of (mask_question n ys ns ch table c k))
     unfolding step_from candidate goal_literal reasons_on reasons_off new_on new_off yes_goals
-    answer_step p = p ∙ sym (ap next_of theirs)
+    answer_step p = ap (λ (s : log.Step). Some s) p ∙ sym (ap next_of theirs)
       where
         q : Question
         q = mask_question n ys ns ch table c k
@@ -184,16 +183,16 @@ module _ {n : ℕ} {ys ns : List ℕ} {ch best : ℕ} {k : LiteralSet} (x : Chos
   pub chosen_reasons : (s t : ℕ) {a b : ℕ} → a ≡ inter s k.yes → b ≡ inter t k.no → Reasoned n ys ns ch (record { yes = a; no = b })
   chosen_reasons s t p q = rw (p, q) (reasoned_within (inter_in s k.yes) (inter_in t k.no) x.known)
 
-  pub chosen_step : (c : LiteralSet) {d a b : ℕ} {says : Bool} {l : Literal} {new : LiteralSet} → d ≡ diff c.yes k.yes
-      → says ≡ has d (best / goal_unit % goal_room) → l ≡ literal_of (best / goal_unit % goal_room) says → a ≡ inter (best % set_room) k.yes
+  pub chosen_step : (c : LiteralSet) {d new : LiteralSet} {a b : ℕ} {says : Bool} {l : Literal} → d ≡ set.diff c k
+      → says ≡ has d.yes (best / goal_unit % goal_room) → l ≡ literal_of (best / goal_unit % goal_room) says → a ≡ inter (best % set_room) k.yes
       → b ≡ inter (best % set_room) k.no → Learnt n ys ns ch (record { yes = a; no = b }) k new
-      → Next.Step l (record { yes = a; no = b }) new (best / cost_unit) ≡ next_of (step (step_at n ys ns ch c k best))
+      → record { goal = l; reasons = record { yes = a; no = b }; new = new; cost = best / cost_unit } ≡ answered (step_at n ys ns ch c k best)
   unfolding step_from goal_literal reasons_on reasons_off new_on new_off yes_goals
-  chosen_step c {d} {a} {b} {says} {l} {new} p q e s t w =
-      λ i. Next.Step (goal_is i) (record { yes = s i; no = t i }) (record { yes = yes_is i; no = no_is i }) (best / cost_unit)
+  chosen_step c {d} {new} {a} {b} {says} {l} p q e s t w =
+      λ i. record { goal = goal_is i; reasons = record { yes = s i; no = t i }; new = record { yes = yes_is i; no = no_is i }; cost = best / cost_unit }
     where
       goal_is : l ≡ literal_of (best / goal_unit % goal_room) (has (diff c.yes k.yes) (best / goal_unit % goal_room))
-      goal_is = e ∙ ap (literal_of (best / goal_unit % goal_room)) (q ∙ ap (λ (m : ℕ). has m (best / goal_unit % goal_room)) p)
+      goal_is = e ∙ ap (literal_of (best / goal_unit % goal_room)) (q ∙ ap (λ (m : LiteralSet). has m.yes (best / goal_unit % goal_room)) p)
 
       yes_is : new.yes ≡ diff (yes_forced (mask_theory n ys ns ch) (inter (best % set_room) k.yes) (inter (best % set_room) k.no)) k.yes
       yes_is = w.yes_new ∙ ap₂ (λ (u : ℕ) (v : ℕ). diff (yes_forced (mask_theory n ys ns ch) u v) k.yes) s t

@@ -1,5 +1,5 @@
 -- What the functions of the step ask and say.
-use Rattle.std.specs.Prelude.{◌≡◌, Bool, not, List, [], ℕ, ◌+◌, ◌*◌, ◌/◌, ◌%◌, ◌^◌, ◌≤◌, ◌<◌, length}
+use Rattle.std.specs.Prelude.{◌≡◌, Bool, not, List, [], ℕ, ◌+◌, ◌*◌, ◌/◌, ◌%◌, ◌^◌, ◌≤◌, ◌<◌, length, Option, Some, None}
 use Rattle.sets.specs.Sets.{bit, union, diff, count, Within}
 use Rattle.items.specs.Weights.{sum_below}
 use Rattle.items.specs.Cheapest.{Least, Minimum}
@@ -10,15 +10,15 @@ use Rattle.witnesses.specs.Promises.{Pooled}
 use Rattle.records.specs.Limits.{max_variables, max_choices, max_cost}
 use Rattle.sat.specs.Meaning.{Model}
 use Rattle.sat.specs.Promises.{Posed}
-use Rattle.problem.specs.Limits.{most_rules}
 use Rattle.consequence.specs.Meaning.{yes_forced, no_forced, NoModelOf}
 use Rattle.consequence.specs.Promises.{mask_theory, Propagated}
 use Rattle.problem.specs.Problem.{cost_of, literal_cost}
 use Rattle.step.specs.Meaning.{Question, asking, goals, against_on, against_off, candidate_cost, Answer, nothing_left, Step, step, step_from}
 use Rattle.witnesses.specs.declared.Aim.{Aim}
 use Rattle.witnesses.specs.declared.Part.{Part}
-use Rattle.witnesses.specs.declared.State.{State}
-use Rattle.step.specs.declared.Next.{Next}
+use Rattle.log_form.specs.declared.Step as log
+use Rattle.problem.specs.Masked.{yes_in, no_in, of_rules}
+use Rattle.problem.specs.declared.MaskedProblem.{MaskedProblem}
 
 -- ---- costs
 
@@ -95,13 +95,12 @@ aim_at table k v says =
     record {
       goal = v;
       says = says;
-      on = k.yes;
-      off = k.no;
+      known = k;
       key = key_part (literal_cost table (literal_of v (not says))) 0 (v * goal_unit);
     }
 
 abbrev pub whole : Aim → Part
-whole aim = record { chosen = 0; limit = union aim.on aim.off; key = aim.key }
+whole aim = record { chosen = 0; limit = union aim.known.yes aim.known.no; key = aim.key }
 
 -- The variables of the goals.
 abbrev pub open_goals : LiteralSet → LiteralSet → ℕ
@@ -153,17 +152,16 @@ pub record Trying (q : Question) (left : ℕ) (x : GoalAndSet) : Type 0 where
   pub picks : Picked q x
   pub tried : bit left x.goal ≡ 0
 
-pub record Searching (n : ℕ) (ys ns : List ℕ) (table : List (List ℕ)) (c k : LiteralSet) (bound left : ℕ) (ms : List ℕ) (state : State) : Type 0 where
+pub record Searching (n : ℕ) (ys ns : List ℕ) (table : List (List ℕ)) (c k : LiteralSet) (bound left : ℕ) (ms : List ℕ) (best : ℕ) : Type 0 where
   pub untried : Within left (open_goals c k)
-  pub cheapest : (ch : ℕ) → Least (Trying (mask_question n ys ns ch table c k) left) (key_of_pair (mask_question n ys ns ch table c k)) bound state.best
-  pub pooled : Pooled n ys ns ms state.used
+  pub cheapest : (ch : ℕ) → Least (Trying (mask_question n ys ns ch table c k) left) (key_of_pair (mask_question n ys ns ch table c k)) bound best
+  pub pooled : Pooled n ys ns ms
 
 -- ---- the new literals
 
 -- Reasons that some filling makes true with the rules.
 pub record Reasoned (n : ℕ) (ys ns : List ℕ) (ch : ℕ) (r : LiteralSet) : Type 0 where
   pub posed : Posed n ys ns r.yes r.no
-  pub short : length ys ≤ most_rules
   pub choices_below : ch < 2 ^ n
   pub model : (f : ℕ) × Model n ys ns r.yes r.no f
 
@@ -181,7 +179,6 @@ pub record Learnt (n : ℕ) (ys ns : List ℕ) (ch : ℕ) (reasons k r : Literal
 pub record Asked (n : ℕ) (ys ns : List ℕ) (ch : ℕ) (table : List (List ℕ)) (c k : LiteralSet) : Type 0 where
   pub posed : Posed n ys ns c.yes c.no
   pub few : n ≤ max_variables
-  pub short : length ys ≤ most_rules
   pub choices_below : ch < 2 ^ n
   pub rows : ch < 2 ^ max_choices
   pub yes_choices : Within c.yes ch
@@ -203,8 +200,30 @@ step_at n ys ns ch c k best =
     step_from (mask_question n ys ns ch [] c k)
     (record { cost = best / cost_unit; goal = best / goal_unit % goal_room; reasons = best % set_room })
 
+-- ---- of a problem as the code holds it
+
+-- What is asked of it, and what the question must be.
+abbrev pub question_in : MaskedProblem → LiteralSet → LiteralSet → Question
+question_in p c k = mask_question p.variables (yes_in p) (no_in p) p.choices p.costs c k
+
+abbrev pub AskedIn : MaskedProblem → LiteralSet → LiteralSet → Type 0
+AskedIn p c k = of_rules Asked p p.choices p.costs c k
+
+-- The step that a key stands for.
+abbrev pub step_in : MaskedProblem → LiteralSet → LiteralSet → ℕ → Step
+step_in p c k best = step_at p.variables (yes_in p) (no_in p) p.choices c k best
+
+-- A step as the code answers it.
+abbrev pub answered : Step → log.Step
+answered s =
+    record {
+      goal = s.goal;
+      reasons = record { yes = s.reasons_on; no = s.reasons_off };
+      new = record { yes = s.new_on; no = s.new_off };
+      cost = s.cost;
+    }
+
 -- The answer for each case.
-abbrev pub next_of : Answer → Next
-next_of nothing_left = Next.NothingLeft
-next_of (step s) =
-    Next.Step s.goal (record { yes = s.reasons_on; no = s.reasons_off }) (record { yes = s.new_on; no = s.new_off }) s.cost
+abbrev pub next_of : Answer → Option log.Step
+next_of nothing_left = None
+next_of (step s) = Some (answered s)

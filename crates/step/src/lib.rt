@@ -1,31 +1,27 @@
 // The next step: the cheapest set of known literals that forces a literal still unknown.
 #![tactic(auto)]
 
-ghost use Rattle.std.specs.Prelude.{◌≡◌, ◌+◌, ◌^◌, ◌<◌, ◌≤◌};
+ghost use Rattle.std.specs.Prelude.{◌≡◌, ◌+◌, ◌^◌, ◌<◌, ◌≤◌, sum};
 ghost use Rattle.sets.specs.Sets.{Apart, width};
 ghost use Rattle.literals.specs.Literal.{variable, literal_of};
 ghost use Rattle.records.specs.Limits.{max_choices};
 ghost use Rattle.problem.specs.Problem.{literal_cost};
-ghost use Rattle.step.specs.Meaning.{step, step_of};
-ghost use Rattle.step.specs.Promises.{fact_unit, key_part, literal_weight, item_weight, Weighed, sum_of, mask_question, aim_at, whole, open_goals, Ready};
-ghost use Rattle.step.specs.Promises.{ReadyWithGoal, LeastUnder, LeastFound, Reasoned, Learnt, Asked, Chosen, step_at, next_of};
+ghost use Rattle.problem.specs.Masked.{of_rules};
+ghost use Rattle.step.specs.Meaning.{step_of};
+ghost use Rattle.step.specs.Promises.{fact_unit, key_part, literal_weight, item_weight, Weighed, sum_of, aim_at, whole, open_goals, Ready};
+ghost use Rattle.step.specs.Promises.{ReadyWithGoal, LeastUnder, LeastFound, Reasoned, Learnt, Chosen, step_in, answered, AskedIn, question_in, next_of};
 
 use book::Book;
-use consequence::Consequence;
 use literals::LiteralSet;
-use reasons::{Aim, Part, State};
+pub use log_form::Step;
+use problem::MaskedProblem;
+use reasons::{Aim, Goal, Part, Pool};
 
-// The answer: the step, or that every literal of the consequence is known.
-#[derive(Clone, Copy)]
-pub enum Next {
-    Step {
-        goal: i8,
-        reasons: LiteralSet,
-        new: LiteralSet,
-        cost: u16,
-    },
-    NothingLeft,
-}
+// The costs of the literals over choices: row by variable, column by sign.
+type Costs = [[u16; 2]; Book::MAX_CHOICES];
+
+// A weight for each variable of a choice.
+type Weights = [u64; Book::MAX_CHOICES];
 
 // The order of the candidates as one number: the cost, then the number of facts, then the goal's variable, then the set. Such
 // a key is a sum: of what the goal gives and of what each known literal in the set gives. A key has room for sets of choices,
@@ -43,10 +39,6 @@ const FACT_UNIT: u64 = VARIABLES * GOAL_UNIT;
 
 const COST_UNIT: u64 = COUNTS * FACT_UNIT;
 
-// The models that the search keeps, for one step. Over hard books of 32 choices half of them ask 1.8 times, a quarter 3.8
-// times as many questions, and twice as many save a tenth of the time. They take 4 KB of the stack.
-const POOL_SIZE: usize = 512;
-
 // The literal over variable v + 1.
 fn literal(v: u32, says: bool) -> i8
     requires { v < width }
@@ -57,19 +49,19 @@ fn literal(v: u32, says: bool) -> i8
 }
 
 // The cost of a literal over a choice: row by variable, column by sign.
-fn cost_of(costs: [[u16; 2]; Book::MAX_CHOICES], l: i8) -> u16
+fn cost_of(costs: &Costs, l: i8) -> u16
     requires l_nonzero { 0 < variable l }
     requires l_bound { variable l ≤ max_choices }
-    ensures { result ≡ literal_cost costs l }
+    ensures { result ≡ literal_cost costs.now l }
 {
     let row = (literals::variable(l) - 1) as usize;
     if 0 < l { costs[row][0] } else { costs[row][1] }
 }
 
 // The cost of the literal over variable v + 1 that says yes or no.
-fn price(costs: [[u16; 2]; Book::MAX_CHOICES], v: u32, says: bool) -> u16
+fn price(costs: &Costs, v: u32, says: bool) -> u16
     requires { v < max_choices }
-    ensures { result ≡ literal_cost costs (literal_of v says) }
+    ensures { result ≡ literal_cost costs.now (literal_of v says) }
 {
     cost_of(costs, literal(v, says))
 }
@@ -84,70 +76,55 @@ fn key_part(cost: u16, facts: u64, rest: u64) -> u64
 }
 
 // What a literal over variable v + 1 adds to a key.
-fn literal_weight(costs: [[u16; 2]; Book::MAX_CHOICES], v: u32, says: bool) -> u64
+fn literal_weight(costs: &Costs, v: u32, says: bool) -> u64
     requires { v < max_choices }
-    ensures { result ≡ literal_weight (literal_cost costs (literal_of v says)) v }
+    ensures { result ≡ literal_weight (literal_cost costs.now (literal_of v says)) v }
 {
     let cost = price(costs, v, says);
     key_part(cost, 1, sets::single(v))
 }
 
 // What the known literal over variable v + 1 adds to a key, and 0 where there is none.
-fn weight(costs: [[u16; 2]; Book::MAX_CHOICES], known: LiteralSet, v: u32) -> u64
+#[tactic(auto, using(crate::specs::Laws::Costs::weight_laws))]
+fn weight(costs: &Costs, known: LiteralSet, v: u32) -> u64
     requires v_lt_max_choices { v < max_choices }
     requires apart { Apart known.yes known.no }
-    ensures { result ≡ item_weight costs known.yes known.no v }
+    ensures { result ≡ item_weight costs.now known.yes known.no v }
 {
     if sets::has(known.yes, v) {
-        return literal_weight(costs, v, true);
+        literal_weight(costs, v, true)
+    } else if sets::has(known.no, v) {
+        literal_weight(costs, v, false)
+    } else {
+        0
     }
-    if sets::has(known.no, v) {
-        return literal_weight(costs, v, false);
-    }
-    0
 }
 
 // The weights of the known literals, by variable.
-fn weigh(costs: [[u16; 2]; Book::MAX_CHOICES], known: LiteralSet) -> [u64; Book::MAX_CHOICES]
+#[tactic(auto, using(crate::specs::Laws::Costs::weighed_laws))]
+fn weigh(costs: &Costs, known: LiteralSet) -> Weights
     requires { Apart known.yes known.no }
-    ensures { Weighed costs known.yes known.no result }
+    ensures { Weighed costs.now known.yes known.no result }
 {
     let mut weights = [0u64; Book::MAX_CHOICES];
-    let mut i = 0;
-    while i < Book::MAX_CHOICES {
+    for i in 0..Book::MAX_CHOICES {
         weights[i] = weight(costs, known, i as u32);
-        i += 1;
     }
     weights
 }
 
-// The sum of all weights.
-fn sum(weights: [u64; Book::MAX_CHOICES]) -> u64
-    requires { sum_of weights < 2 ^ width }
-    ensures { result ≡ sum_of weights }
-{
-    let mut total: u64 = 0;
-    let mut i = 0;
-    while i < Book::MAX_CHOICES {
-        total += weights[i];
-        i += 1;
-    }
-    total
-}
-
 // The goal over variable v + 1.
-fn aim_at(costs: [[u16; 2]; Book::MAX_CHOICES], known: LiteralSet, v: u32, says: bool) -> Aim
+fn aim_at(costs: &Costs, known: LiteralSet, v: u32, says: bool) -> Aim
     requires { v < max_choices }
-    ensures { result ≡ aim_at costs known v says }
+    ensures { result ≡ aim_at costs.now known v says }
 {
     let cost = price(costs, v, !says);
     let key = key_part(cost, 0, v as u64 * GOAL_UNIT);
     Aim {
         goal: v,
-        says: says,
-        on: known.yes,
-        off: known.no,
-        key: key,
+        says,
+        known,
+        key,
     }
 }
 
@@ -157,7 +134,7 @@ fn all_sets(aim: Aim) -> Part
 {
     Part {
         chosen: 0,
-        limit: sets::union(aim.on, aim.off),
+        limit: aim.known.variables(),
         key: aim.key,
     }
 }
@@ -166,143 +143,119 @@ fn all_sets(aim: Aim) -> Part
 fn open_goals(consequence: LiteralSet, known: LiteralSet) -> u64
     ensures { result ≡ open_goals consequence known }
 {
-    let yes_goals = sets::difference(consequence.yes, known.yes);
-    let no_goals = sets::difference(consequence.no, known.no);
-    sets::union(yes_goals, no_goals)
+    consequence.difference(known).variables()
 }
 
 // The least of a bound and the keys of all candidates. The goals share the least key so far and the pool, lowest variable
 // first. A goal says what the consequence says of its variable.
+#[tactic(auto, using(crate::specs::Laws::AllGoals::searching_laws))]
 fn cheapest_under(
-    n: u32,
-    yes: &[u64],
-    no: &[u64],
-    costs: [[u16; 2]; Book::MAX_CHOICES],
-    weights: [u64; Book::MAX_CHOICES],
+    problem: &MaskedProblem,
+    weights: &Weights,
     consequence: LiteralSet,
     known: LiteralSet,
     bound: u64,
 ) -> u64
-    requires ready { Ready n yes.now no.now costs consequence known }
-    requires weighed { Weighed costs known.yes known.no weights }
-    ensures { LeastUnder n yes.now no.now costs consequence known bound result }
+    requires ready { of_rules Ready problem.now problem.now.costs consequence known }
+    requires weighed { Weighed problem.now.costs known.yes known.no weights.now }
+    ensures { of_rules LeastUnder problem.now problem.now.costs consequence known bound result }
 {
-    let mut left = open_goals(consequence, known);
-    let mut pool = [0u64; POOL_SIZE];
-    let mut state = State {
-        best: bound,
-        used: 0,
-        next: 0,
-        looks: 0,
-    };
-    while left != 0 {
-        let v = sets::lowest(left);
-        let aim = aim_at(costs, known, v, sets::has(consequence.yes, v));
-        let part = all_sets(aim);
-        state = reasons::explore(n, yes, no, &weights, &mut pool, aim, part, state);
-        left = sets::remove(left, v);
+    let formula = problem.formula();
+    let mut pool = Pool::new();
+    let mut best = bound;
+    for v in sets::members(open_goals(consequence, known)) {
+        let aim = aim_at(&problem.costs, known, v, sets::has(consequence.yes, v));
+        let goal = Goal {
+            formula,
+            weights,
+            aim,
+        };
+        best = reasons::explore(goal, all_sets(aim), &mut pool, best);
     }
-    state.best
+    best
+}
+
+// The sum of all weights.
+fn sum(weights: &Weights) -> u64
+    requires { sum weights.now < 2 ^ width }
+    ensures { result ≡ sum weights.now }
+{
+    weights.iter().sum()
 }
 
 // The key of all that is known with one goal.
-fn known_key(weights: [u64; Book::MAX_CHOICES], aim: Aim) -> u64
-    requires { aim.key + sum_of weights < 2 ^ width }
-    ensures { result ≡ aim.key + sum_of weights }
+#[tactic(auto, using(crate::specs::Laws::Costs::sum_all))]
+fn known_key(weights: &Weights, aim: Aim) -> u64
+    requires { aim.key + sum_of weights.now < 2 ^ width }
+    ensures { result ≡ aim.key + sum_of weights.now }
 {
     aim.key + sum(weights)
 }
 
 // The least key of all candidates. What is known forces each goal, so all of it with the lowest goal is a candidate, and its
 // key a bound.
-fn cheapest(
-    n: u32,
-    yes: &[u64],
-    no: &[u64],
-    costs: [[u16; 2]; Book::MAX_CHOICES],
-    consequence: LiteralSet,
-    known: LiteralSet,
-) -> u64
-    requires { ReadyWithGoal n yes.now no.now costs consequence known }
-    ensures { LeastFound n yes.now no.now costs consequence known result }
+#[tactic(auto, using(crate::specs::Laws::AllGoals::bound_laws))]
+fn cheapest(problem: &MaskedProblem, consequence: LiteralSet, known: LiteralSet) -> u64
+    requires { of_rules ReadyWithGoal problem.now problem.now.costs consequence known }
+    ensures { of_rules LeastFound problem.now problem.now.costs consequence known result }
 {
-    let weights = weigh(costs, known);
+    let weights = weigh(&problem.costs, known);
     let v = sets::lowest(open_goals(consequence, known));
-    let aim = aim_at(costs, known, v, sets::has(consequence.yes, v));
-    let bound = known_key(weights, aim);
-    cheapest_under(n, yes, no, costs, weights, consequence, known, bound)
+    let aim = aim_at(&problem.costs, known, v, sets::has(consequence.yes, v));
+    let bound = known_key(&weights, aim);
+    cheapest_under(problem, &weights, consequence, known, bound)
 }
 
 // The new literals: what the reasons force over choices, less what is known. The reasons have a model.
-fn learn(
-    n: u32,
-    yes: &[u64],
-    no: &[u64],
-    choices: u64,
-    reasons: LiteralSet,
-    known: LiteralSet,
-) -> LiteralSet
-    requires { Reasoned n yes.now no.now choices reasons }
-    ensures { Learnt n yes.now no.now choices reasons known result }
+#[tactic(auto, using(crate::proofs::Steps::learn_laws))]
+fn learn(problem: &MaskedProblem, reasons: LiteralSet, known: LiteralSet) -> LiteralSet
+    requires { of_rules Reasoned problem.now problem.now.choices reasons }
+    ensures { of_rules Learnt problem.now problem.now.choices reasons known result }
 {
-    let p = propagation::of_literals(reasons);
-    match consequence::propagate(n, yes, no, choices, p) {
-        Consequence::NoModel => known,
-        Consequence::Forced { kept, models: _ } => LiteralSet {
-            yes: sets::difference(kept.yes, known.yes),
-            no: sets::difference(kept.no, known.no),
-        },
+    match consequence::propagate(problem.formula(), problem.choices, reasons) {
+        None => known,
+        Some(forced) => forced.kept.difference(known),
     }
 }
 
 // The step that a key stands for.
-fn step_of(
-    n: u32,
-    yes: &[u64],
-    no: &[u64],
-    choices: u64,
-    consequence: LiteralSet,
-    known: LiteralSet,
-    best: u64,
-) -> Next
-    requires { Chosen n yes.now no.now choices known best }
-    ensures { result ≡ next_of (step (step_at n yes.now no.now choices consequence known best)) }
+#[tactic(auto, using(crate::proofs::Steps::step_laws))]
+fn step_of(problem: &MaskedProblem, consequence: LiteralSet, known: LiteralSet, best: u64) -> Step
+    requires { of_rules Chosen problem.now problem.now.choices known best }
+    ensures { result ≡ answered (step_in problem.now consequence known best) }
 {
     let set = best % SETS;
     let v = (best / GOAL_UNIT % VARIABLES) as u32;
     let cost = (best / COST_UNIT) as u16;
-    let yes_goals = sets::difference(consequence.yes, known.yes);
-    let goal = literal(v, sets::has(yes_goals, v));
+    let goals = consequence.difference(known);
+    let goal = literal(v, sets::has(goals.yes, v));
     let reasons = LiteralSet {
         yes: sets::intersection(set, known.yes),
         no: sets::intersection(set, known.no),
     };
-    let new = learn(n, yes, no, choices, reasons, known);
-    Next::Step {
-        goal: goal,
-        reasons: reasons,
-        new: new,
-        cost: cost,
+    let new = learn(problem, reasons, known);
+    Step {
+        goal,
+        reasons,
+        new,
+        cost,
     }
 }
 
-// The next step.
+// The next step, or that every literal of the consequence is known.
+#[tactic(auto, using(crate::proofs::Steps::answer_laws))]
 pub fn next_step(
-    n: u32,
-    yes: &[u64],
-    no: &[u64],
-    choices: u64,
-    costs: [[u16; 2]; Book::MAX_CHOICES],
+    problem: &MaskedProblem,
     consequence: LiteralSet,
     known: LiteralSet,
-) -> Next
-    requires { Asked n yes.now no.now choices costs consequence known }
-    ensures { result ≡ next_of (step_of (mask_question n yes.now no.now choices costs consequence known)) }
+) -> Option<Step>
+    requires { AskedIn problem.now consequence known }
+    ensures { result ≡ next_of (step_of (question_in problem.now consequence known)) }
 {
     let goals = open_goals(consequence, known);
     if goals == 0 {
-        return Next::NothingLeft;
+        return None;
     }
-    let best = cheapest(n, yes, no, costs, consequence, known);
-    step_of(n, yes, no, choices, consequence, known, best)
+    let best = cheapest(problem, consequence, known);
+    Some(step_of(problem, consequence, known, best))
 }

@@ -1,8 +1,8 @@
 -- What the functions of the question and of the bound for one goal ask and say.
-use Rattle.std.specs.Prelude.{◌≡◌, ◌⊎◌, Bool, true, not, cond, List, ℕ, ◌+◌, ◌^◌, ◌≤◌, ◌<◌, length, get_or}
+use Rattle.std.specs.Prelude.{◌≡◌, ◌⊎◌, Bool, true, not, cond, List, ℕ, ◌+◌, ◌^◌, ◌≤◌, ◌<◌, length, get_or, Some, Option}
 use Rattle.sets.specs.Sets.{width, bit, has, union, inter, diff, insert, Within, Apart}
 use Rattle.items.specs.Cheapest.{Witnessed}
-use Rattle.items.specs.Witnesses.{Pool, Kept}
+use Rattle.items.specs.Witnesses.{Pool}
 use Rattle.items.specs.Bounds.{sum_key, LowerBound, Bounding}
 use Rattle.items.specs.Promises.{weight_in, Rows, AtMostEach, TakenOff}
 use Rattle.records.specs.Limits.{max_choices}
@@ -11,18 +11,16 @@ use Rattle.propagation.specs.Promises.{digit}
 use Rattle.sat.specs.Promises.{Posed}
 use Rattle.witnesses.specs.declared.Aim.{Aim}
 use Rattle.witnesses.specs.declared.Part.{Part}
-use Rattle.witnesses.specs.declared.State.{State}
 use Rattle.witnesses.specs.declared.bound.Bounds.{Bounds}
-use Rattle.witnesses.specs.declared.bound.Witness.{Witness}
 
 -- ---- the question for one goal
 
 -- The reasons over the variables of s, with the goal's opposite.
 unfoldable pub aim_on : Aim → ℕ → ℕ
-aim_on aim s = cond aim.says (inter s aim.on) (insert (inter s aim.on) aim.goal)
+aim_on aim s = cond aim.says (inter s aim.known.yes) (insert (inter s aim.known.yes) aim.goal)
 
 unfoldable pub aim_off : Aim → ℕ → ℕ
-aim_off aim s = cond aim.says (insert (inter s aim.off) aim.goal) (inter s aim.off)
+aim_off aim s = cond aim.says (insert (inter s aim.known.no) aim.goal) (inter s aim.known.no)
 
 pub record Against (aim : Aim) (s on off : ℕ) : Type 0 where
   pub on_said : on ≡ aim_on aim s
@@ -42,11 +40,11 @@ key_at ws aim s = sum_key aim.key (weight_in ws) max_choices s
 
 -- Rules, known literals and a goal that is not known.
 pub record Aimed (n : ℕ) (ys ns : List ℕ) (aim : Aim) : Type 0 where
-  pub posed : Posed n ys ns aim.on aim.off
+  pub posed : Posed n ys ns aim.known.yes aim.known.no
   pub goal_below : aim.goal < n
   pub goal_row : aim.goal < max_choices
-  pub not_on : bit aim.on aim.goal ≡ 0
-  pub not_off : bit aim.off aim.goal ≡ 0
+  pub not_on : bit aim.known.yes aim.goal ≡ 0
+  pub not_off : bit aim.known.no aim.goal ≡ 0
 
 -- ---- the pool
 
@@ -56,13 +54,8 @@ pub record Obeying (n : ℕ) (ys ns : List ℕ) (f : ℕ) : Type 0 where
   pub obeyed : obeys_all f ys ns ≡ true
 
 -- The pool holds fillings that obey the rules.
-abbrev pub Pooled : ℕ → List ℕ → List ℕ → List ℕ → ℕ → Type 0
-Pooled n ys ns ms used = Pool (Obeying n ys ns) ms used
-
--- What `store` leaves: a pool of the numbers that it had and the new one. The least key so far is as it was.
-pub record Stored (ms : List ℕ) (state : State) (m : ℕ) (us : List ℕ) (r : State) : Type 0 where
-  pub same_best : r.best ≡ state.best
-  pub kept : Kept ms state.used m us r.used
+abbrev pub Pooled : ℕ → List ℕ → List ℕ → List ℕ → Type 0
+Pooled n ys ns ms = Pool (Obeying n ys ns) ms
 
 -- ---- the bound of a part, from the pool alone
 
@@ -75,26 +68,22 @@ abbrev pub Denies : Aim → ℕ → Type 0
 Denies aim f = bit f aim.goal ≡ digit (not aim.says)
 
 -- For each filling of the pool that makes the goal false, the set t holds an item that the filling makes false.
-pub record Meeting (aim : Aim) (ms : List ℕ) (used t : ℕ) : Type 0 where
-  pub meets : (i : ℕ) → i < used → Denies aim (get_or ms i 0) → (v : ℕ) × (bit (denied_by aim.on aim.off (get_or ms i 0)) v ≡ 1) × (bit t v ≡ 1)
+pub record Meeting (aim : Aim) (ms : List ℕ) (t : ℕ) : Type 0 where
+  pub meets : (i : ℕ) → i < length ms → Denies aim (get_or ms i 0) → (v : ℕ) × (bit (denied_by aim.known.yes aim.known.no (get_or ms i 0)) v ≡ 1) × (bit t v ≡ 1)
 
 -- What a filling of the pool tells of a part: nothing, or the items within its limit that it makes false; it makes the goal false, and no item chosen.
 pub record Opens (aim : Aim) (part : Part) (f o : ℕ) : Type 0 where
   pub denies : Denies aim f
-  pub apart : Apart part.chosen (denied_by aim.on aim.off f)
-  pub is : o ≡ inter (denied_by aim.on aim.off f) part.limit
+  pub apart : Apart part.chosen (denied_by aim.known.yes aim.known.no f)
+  pub is : o ≡ inter (denied_by aim.known.yes aim.known.no f) part.limit
 
-abbrev pub Shows : Aim → Part → ℕ → Witness → Type 0
-Shows aim part f Witness.Met = Unit {0}
-Shows aim part f (Witness.Open o) = Opens aim part f o
-
-pub record Shown (aim : Aim) (part : Part) (f : ℕ) (r : Witness) : Type 0 where
-  pub said : Shows aim part f r
+pub record Shown (aim : Aim) (part : Part) (f : ℕ) (r : Option ℕ) : Type 0 where
+  pub opens : (o : ℕ) → r ≡ Some o → Opens aim part f o
 
 -- The same bound, and either witness.
 pub record Noted (b : Bounds) (o : ℕ) (r : Bounds) : Type 0 where
   pub same_bound : r.bound ≡ b.bound
-  pub one_of : (r.witness ≡ o) ⊎ (r.witness ≡ b.witness)
+  pub one_of : (r.witness ≡ Some o) ⊎ (r.witness ≡ b.witness)
 
 -- Each item of o has a weight, and the bound has room for what each can give.
 pub record Roomy (left : List ℕ) (b : Bounds) (o : ℕ) : Type 0 where
@@ -118,15 +107,15 @@ pub record Parted (ws : List ℕ) (aim : Aim) (part : Part) : Type 0 where
   pub cheap : key_at ws aim part.limit < 2 ^ width
 
 -- The bound after some witnesses of the pool.
-pub record Charging (ws : List ℕ) (aim : Aim) (part : Part) (ms : List ℕ) (used : ℕ) (left : List ℕ) (b : Bounds) : Type 0 where
+pub record Charging (ws : List ℕ) (aim : Aim) (part : Part) (ms : List ℕ) (left : List ℕ) (b : Bounds) : Type 0 where
   pub rows : length left ≡ max_choices
   pub from_key : part.key ≤ b.bound
-  pub bounding : Bounding (Meeting aim ms used) (key_at ws aim) max_choices part.chosen part.limit (weight_in left) b.bound
-  pub witnessed : Witnessed (Meeting aim ms used) part.chosen part.limit b.witness
+  pub bounding : Bounding (Meeting aim ms) (key_at ws aim) max_choices part.chosen part.limit (weight_in left) b.bound
+  pub witnessed : Witnessed (Meeting aim ms) part.chosen part.limit b.witness
 
 -- The bound of a part.
-pub record Bounded (ws : List ℕ) (aim : Aim) (part : Part) (ms : List ℕ) (used : ℕ) (left : List ℕ) (b : Bounds) : Type 0 where
+pub record Bounded (ws : List ℕ) (aim : Aim) (part : Part) (ms : List ℕ) (left : List ℕ) (b : Bounds) : Type 0 where
   pub rows : length left ≡ max_choices
   pub from_key : part.key ≤ b.bound
-  pub lower : LowerBound (Meeting aim ms used) (key_at ws aim) max_choices part.chosen part.limit (weight_in left) b.bound
-  pub witnessed : Witnessed (Meeting aim ms used) part.chosen part.limit b.witness
+  pub lower : LowerBound (Meeting aim ms) (key_at ws aim) max_choices part.chosen part.limit (weight_in left) b.bound
+  pub witnessed : Witnessed (Meeting aim ms) part.chosen part.limit b.witness

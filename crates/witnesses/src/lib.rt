@@ -5,16 +5,18 @@
 #![tactic(auto)]
 
 pub mod bound;
+pub mod pool;
 pub mod question;
 
-// What the search does not change: the goal's variable and what the goal says of it, the known literals, and the key of the
-// goal with no reasons.
+use literals::LiteralSet;
+pub use pool::Pool;
+
+// A goal: its variable and what it says of it, the known literals, and the key of the goal with no reasons.
 #[derive(Clone, Copy)]
 pub struct Aim {
     pub goal: u32,
     pub says: bool,
-    pub on: u64,
-    pub off: u64,
+    pub known: LiteralSet,
     pub key: u64,
 }
 
@@ -25,14 +27,4 @@ pub struct Part {
     pub chosen: u64,
     pub limit: u64,
     pub key: u64,
-}
-
-// What the search carries along: the least key so far, and how many models the pool holds. No promise depends on the rest:
-// where the next model goes once the pool is full, and the looks since the last question that was asked for the pool alone.
-#[derive(Clone, Copy)]
-pub struct State {
-    pub best: u64,
-    pub used: usize,
-    pub next: usize,
-    pub looks: u32,
 }

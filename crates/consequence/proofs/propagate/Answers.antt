@@ -1,26 +1,16 @@
--- `consequence::propagate` meets its contract. The invariant: the models found so far, and that what is kept is what they have in common.
--- Assumes nothing.
-use Rattle.std.proofs.Common.{arith, rules}
-use Rattle.consequence.proofs.NarrowLaws.{number_most, round_laws}
+-- `consequence::propagate` meets its contract. Assumes nothing.
+use Rattle.consequence.proofs.NarrowLaws.{yes_below, no_below, round_last, round_less}
 use Rattle.consequence.proofs.propagate.Goals as goal
 
+pub deny-next-requires-clause-yes_bound : goal.deny-next-requires-clause-yes_bound
+deny-next-requires-clause-yes_bound c = yes_below c.loop-m.invariant
+
+pub deny-next-requires-clause-no_bound : goal.deny-next-requires-clause-no_bound
+deny-next-requires-clause-no_bound c = no_below c.loop-m.invariant
+
 pub returns-in_default : goal.returns-in_default
-returns-in_default c = search (rules, round_laws)
-
-pub loop-m-init : goal.loop-m-init
-loop-m-init c = search (rules, round_laws)
-
-pub deny-next-requires : goal.deny-next-requires
-deny-next-requires c = search (rules, round_laws)
-
-pub returns-in_default-next : goal.returns-in_default-next
-returns-in_default-next c = search (rules, round_laws)
-
-pub overflow_add-models : goal.overflow_add-models
-overflow_add-models c = record { fits = omega (arith, number_most c.loop-m.invariant c.requires.choices_bound, c.requires.posed.small) }
+returns-in_default c = round_last c.requires.choices_bound c.loop-m.invariant c.deny-next.ensures c.search.ensures c.in_ok-m.was c.in_default.is
 
 pub loop-m-smaller : goal.loop-m-smaller
-loop-m-smaller c = search (rules, round_laws)
-
-pub loop-m-preserved : goal.loop-m-preserved
-loop-m-preserved c = search (rules, round_laws)
+loop-m-smaller c =
+    round_less c.requires.choices_bound c.loop-m.invariant c.deny-next.ensures c.in-Some.is c.over_choices.ensures c.intersection-kept.ensures

@@ -1,5 +1,5 @@
 -- The search for the first model: a partial filling with the values of a model fixed, and one variable more. Assumes nothing.
-use Rattle.std.specs.Prelude.{◌≡◌, refl, Bool, true, false, not, List, ℕ, ◌+◌, ◌-◌, ◌≤◌, ◌<◌, max, min}
+use Rattle.std.specs.Prelude.{◌≡◌, refl, Bool, true, false, not, List, ℕ, ◌+◌, ◌-◌, ◌≤◌, ◌<◌, max, min, Option, Some, None, unwrap_or}
 use Rattle.std.proofs.Common.{sym, ap, subst, ◌∙◌}
 use Rattle.std.proofs.Math.Logic.{by_cases}
 use Rattle.std.proofs.Math.Decide.{dec_lt, ℕ_discrete}
@@ -11,10 +11,8 @@ use Rattle.sets.specs.Laws.Bits.{bit_le, bit_union, bit_inter, bit_diff, bit_ful
 use Rattle.sets.specs.Laws.Subset.{has_true, has_false, within_le}
 use Rattle.propagation.specs.Promises.{Assigned}
 use Rattle.sat.specs.Meaning.{Model, NoModel}
-use Rattle.sat.specs.Promises.{Posed, Unset}
+use Rattle.sat.specs.Promises.{Posed, Unset, Finds, Searched}
 use Rattle.sat.specs.Laws.Assigns.{posed_with, model_with, model_assigned, assigned_model, posed_assigned}
-use Rattle.sat.specs.declared.SearchResult.{SearchResult}
-use Rattle.sat.specs.declared.SearchResult.TheVariants.{Found, Nothing}
 use Rattle.first_model.specs.Meaning.{weight, First}
 use Rattle.first_model.specs.Promises.{Fixed, FirstUpTo, FirstSearched}
 use Rattle.first_model.proofs.Laws.Order.{weight_next, agree_weight, weight_agree, least_first}
@@ -113,6 +111,14 @@ module _ {n : ℕ} {ys ns : List ℕ} {on off m v : ℕ} (up : FirstUpTo n ys ns
         (λ g k e. by_cases (ℕ_discrete (bit g v) 0) (λ z. absurd (none.none g (model_assigned s (fixed_model x k e) z)))
         (λ z. omega (arith, bit_le m v, bit_le g v)))
 
+    -- the model that is kept: another one where there is one
+    pub lower_kept : {r : Option ℕ} {t : ℕ} → Searched n ys ns c d r → t ≡ unwrap_or r m → FirstUpTo n ys ns on off (v + 1) t
+    lower_kept {r} w e = rw e (go r w.found)
+      where
+        go : (o : Option ℕ) → Finds n ys ns c d o → FirstUpTo n ys ns on off (v + 1) (unwrap_or o m)
+        go (Some f) k = found_lower k
+        go None k = none_lower k
+
     -- what is asked
     pub lower_posed : Posed n ys ns on off → v < n → {left : ℕ} {r : Bool} → left ≡ diff m on → r ≡ has left v → not r ≡ false → Posed n ys ns c d
     lower_posed p h {left} {r} q e t =
@@ -132,11 +138,13 @@ module _ {n : ℕ} {ys ns : List ℕ} {on off m : ℕ} where
   ends {v} h l up =
       let e : v ≡ n = omega arith in least_first n (Model n ys ns on off) (λ g k. k.below) m up.model (rw e at up.least)
 
+pub ruleset lowest_laws = (begins, ends)
+
 -- ---- what was found
 
-module _ {n : ℕ} {ys ns : List ℕ} {on off : ℕ} {r : SearchResult} where
-  pub searched_first : {m : ℕ} → FirstSearched n ys ns on off r → r ≡ Found m → First (Model n ys ns on off) m
+module _ {n : ℕ} {ys ns : List ℕ} {on off : ℕ} {r : Option ℕ} where
+  pub searched_first : {m : ℕ} → FirstSearched n ys ns on off r → r ≡ Some m → First (Model n ys ns on off) m
   searched_first s e = (subst (FirstSearched n ys ns on off) e s).found
 
-  pub searched_no_first : FirstSearched n ys ns on off r → r ≡ Nothing → NoModel n ys ns on off
+  pub searched_no_first : FirstSearched n ys ns on off r → r ≡ None → NoModel n ys ns on off
   searched_no_first s e = (subst (FirstSearched n ys ns on off) e s).found

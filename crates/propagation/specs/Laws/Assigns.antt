@@ -14,6 +14,8 @@ assigned_yes p q r = rw p (record { said = (q, r) })
 pub assigned_no : {on off v a b : ℕ} {value : Bool} → value ≡ false → a ≡ on → b ≡ insert off v → Assigned on off v value a b
 assigned_no p q r = rw p (record { said = (q, r) })
 
+pub ruleset assign_laws = (assigned_yes, assigned_no)
+
 -- the digit of a value
 pub digit_has : (m v : ℕ) (b : Bool) → b ≡ has m v → digit b ≡ bit m v
 digit_has m v true e = sym (has_true m v (sym e))

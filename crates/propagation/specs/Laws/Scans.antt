@@ -1,15 +1,28 @@
 -- The steps of a pass over the rules: a law for each. Assumes nothing.
-use Rattle.std.specs.Prelude.{◌≡◌, ℕ, ◌+◌, ◌≤◌, ◌≢◌, List, length}
+use Rattle.std.specs.Prelude.{◌≡◌, ℕ, ◌+◌, ◌<◌, ◌≤◌, ◌≢◌, List, length, get_or}
 use Rattle.std.proofs.Common.{sym, subst, arith, pow_pos}
+use Rattle.std.proofs.lemmas.List.{get_or-map}
+use Rattle.std.proofs.Math.ListN.{length-map}
 use Rattle.std.proofs.Math.Logic.{by_cases}
 use Rattle.std.proofs.Math.Decide.{ℕ_discrete, dec_lt}
 use Rattle.sets.specs.Sets.{union, Lowest}
 use Rattle.sets.specs.Laws.Bits.{bit_le, bit_zero, bit_union, union_lt}
 use Rattle.sets.specs.Laws.Subset.{within_refl, within_le, union_none}
-use Rattle.propagation.specs.Promises.{LeftOpen, Looked, RuleAt, Open, ToTry, Chosen, Gives, Passed, PassedRange, PassedAll, LeftBetween, LeftByAll}
+use Rattle.propagation.specs.Promises.{yes_masks, no_masks, LeftOpen, Looked, RuleAt, Open, ToTry, Chosen, Gives, Passed, PassedRange, PassedAll, LeftBetween, LeftByAll}
+use Rattle.literals.specs.declared.LiteralSet.{LiteralSet}
 use Rattle.propagation.specs.declared.pass.Look.{Look}
-use Rattle.propagation.specs.declared.pass.Rule.{Rule}
 use Rattle.propagation.specs.declared.pass.Pass.{Pass}
+
+-- rule j of the rules, by its masks
+pub rule_there : (rs : List LiteralSet) (j : ℕ) (d : LiteralSet) → j < length rs
+    → RuleAt (yes_masks rs) (no_masks rs) j (get_or rs j d).yes (get_or rs j d).no
+rule_there rs j d h =
+    record {
+      yes_place = simp length-map h;
+      no_place = simp length-map h;
+      yes_there = sym (get_or-map (λ (r : LiteralSet). r.yes) rs j d 0 h);
+      no_there = sym (get_or-map (λ (r : LiteralSet). r.no) rs j d 0 h);
+    }
 
 -- nothing is open
 open_none : (ys ns : List ℕ) (on off : ℕ) → Open ys ns on off 0
@@ -73,7 +86,7 @@ module _ {ys ns : List ℕ} {on off j y m : ℕ} {r : Look} where
   shorter {l} a s e z = record { opened = left_below a (subst (Looked y m on off) e s).said; some = omega arith }
 
 -- a rule that is a conflict, or forces a variable
-module _ {Left : ℕ → Type 0} {ys ns : List ℕ} {on off j : ℕ} {rule : Rule} {r : Look} where
+module _ {Left : ℕ → Type 0} {ys ns : List ℕ} {on off j : ℕ} {rule : LiteralSet} {r : Look} where
   pub range_conflict : RuleAt ys ns j rule.yes rule.no → Looked rule.yes rule.no on off r → r ≡ Look.Conflict
       → Passed Left ys ns on off (Pass.Conflict rule)
   range_conflict a s e = record { said = (record { place = j; rule = a }, (subst (Looked rule.yes rule.no on off) e s).said) }
@@ -98,10 +111,10 @@ range_done h b =
 
 module _ {Left : ℕ → Type 0} {ys ns : List ℕ} {on off : ℕ} {r : Pass} where
   -- a conflict, or a rule that forces a variable
-  pub scan_conflict : {rule : Rule} → Passed Left ys ns on off r → r ≡ Pass.Conflict rule → PassedAll ys ns on off (Pass.Conflict rule)
+  pub scan_conflict : {rule : LiteralSet} → Passed Left ys ns on off r → r ≡ Pass.Conflict rule → PassedAll ys ns on off (Pass.Conflict rule)
   scan_conflict p e = record { said = (subst (Passed Left ys ns on off) e p).said }
 
-  pub scan_unit : {rule : Rule} {next : ℕ} → Passed Left ys ns on off r → r ≡ Pass.Unit rule next → PassedAll ys ns on off (Pass.Unit rule next)
+  pub scan_unit : {rule : LiteralSet} {next : ℕ} → Passed Left ys ns on off r → r ≡ Pass.Unit rule next → PassedAll ys ns on off (Pass.Unit rule next)
   scan_unit p e = record { said = (subst (Passed Left ys ns on off) e p).said }
 
 -- neither: the rules before the place
@@ -126,11 +139,20 @@ scan_rest {k} {x} {ys} {ns} {on} {off} {q} {r} p e s = record { said = go r s.sa
               };
         }
 
+-- the same, of the masks of a list of rules
+pub scan_rules : (rs : List LiteralSet) {k x on off : ℕ} {q r : Pass} → PassedRange k (length rs) (yes_masks rs) (no_masks rs) on off 0 q
+    → q ≡ Pass.Quiet x → PassedRange 0 k (yes_masks rs) (no_masks rs) on off x r → PassedAll (yes_masks rs) (no_masks rs) on off r
+scan_rules rs {k} {x} {on} {off} {q} {r} p e s =
+    let h : length rs ≡ length (yes_masks rs) = simp length-map in
+    scan_rest (subst (λ (j : ℕ). PassedRange k j (yes_masks rs) (no_masks rs) on off 0 q) h p) e s
+
 -- ---- `choose`
 
 pub chosen : {ys ns : List ℕ} {on off x v : ℕ} → ToTry ys ns on off x → Lowest x v → Chosen ys ns on off v
 chosen {ys} {ns} {on} {off} {x} {v} t l = record { small = l.within; among = x; opened = t.opened; member = l.least.member }
 
-pub ruleset range_laws = (range_start, range_quiet, range_conflict, range_unit, range_done)
+pub ruleset range_laws = (rule_there, range_start, range_quiet, range_conflict, range_unit, range_done)
 
-pub ruleset scan_laws = (scan_conflict, scan_unit, scan_rest)
+pub ruleset short_laws = (rule_there, shorter)
+
+pub ruleset scan_laws = (scan_conflict, scan_unit, scan_rules)

@@ -14,34 +14,34 @@ force-follow-requires t c =
 
 pub force-returns-then-handed_up : goal.force-returns-then-handed_up
 force-returns-then-handed_up t c =
-    force_handed c.requires (force_lowest c.requires c.unset_of.ensures c.lowest-v.ensures) c.assign-q.ensures c.follow.ensures c.in-Implied.is
+    force_handed c.requires (force_lowest c.requires c.unset_of.ensures c.lowest-v.ensures) c.assign-q.ensures c.follow.ensures c.in-Err.is
     c.handed_up.ensures c.if-handed_up.true
 
-pub force-returns-in-Model : goal.force-returns-in-Model
-force-returns-in-Model t c = branch_model c.assign-q.ensures c.follow.ensures c.in-Model.is
+pub force-returns-in-Ok : goal.force-returns-in-Ok
+force-returns-in-Ok t c = branch_model c.assign-q.ensures c.follow.ensures c.in-Ok.is
 
 pub force-returns-else-handed_up : goal.force-returns-else-handed_up
 force-returns-else-handed_up t c =
-    force_resolved c.requires (force_lowest c.requires c.unset_of.ensures c.lowest-v.ensures) c.assign-q.ensures c.follow.ensures c.in-Implied.is
+    force_resolved c.requires (force_lowest c.requires c.unset_of.ensures c.lowest-v.ensures) c.assign-q.ensures c.follow.ensures c.in-Err.is
     c.handed_up.ensures c.has.ensures c.if-handed_up.false c.resolve.ensures
 
 pub try_variable-follow-requires : goal.try_variable-follow-requires
 try_variable-follow-requires t c =
     let u = try_unset c.requires c.choose-v.ensures in
-    (try_less c.requires u c.assign-q.ensures c.union-set.ensures c.decreases, try_following c.requires u c.assign-q.ensures c.union-set.ensures)
+    (try_less c.requires u c.assign-q.ensures c.variables-set.ensures c.decreases, try_following c.requires u c.assign-q.ensures c.variables-set.ensures)
 
 pub try_variable-returns-then-handed_up : goal.try_variable-returns-then-handed_up
 try_variable-returns-then-handed_up t c =
-    try_handed c.requires (try_unset c.requires c.choose-v.ensures) c.assign-q.ensures c.union-set.ensures c.follow.ensures c.in-Implied.is
+    try_handed c.requires (try_unset c.requires c.choose-v.ensures) c.assign-q.ensures c.variables-set.ensures c.follow.ensures c.in-Err.is
     c.handed_up.ensures c.if-handed_up.true
 
 pub try_variable-force-requires : goal.try_variable-force-requires
 try_variable-force-requires t c =
-    let less : 3 * unset c.args.n c.args.p.on c.args.p.off < t = omega (arith, c.decreases) in (
+    let less : 3 * unset c.args.f.variables c.args.p.yes c.args.p.no < t = omega (arith, c.decreases) in (
       less,
-      try_forcing c.requires (try_unset c.requires c.choose-v.ensures) c.assign-q.ensures c.union-set.ensures c.follow.ensures c.in-Implied.is
+      try_forcing c.requires (try_unset c.requires c.choose-v.ensures) c.assign-q.ensures c.variables-set.ensures c.follow.ensures c.in-Err.is
           c.handed_up.ensures c.if-handed_up.false,
     )
 
-pub try_variable-returns-in-Model : goal.try_variable-returns-in-Model
-try_variable-returns-in-Model t c = branch_model c.assign-q.ensures c.follow.ensures c.in-Model.is
+pub try_variable-returns-in-Ok : goal.try_variable-returns-in-Ok
+try_variable-returns-in-Ok t c = branch_model c.assign-q.ensures c.follow.ensures c.in-Ok.is

@@ -6,10 +6,10 @@ use Rattle.sat.specs.Promises.{unset}
 use Rattle.sat.proofs.+follow_force_try_variable.Given as goal
 
 abbrev pub decreases-follow : goal.decreases-follow
-decreases-follow l = 3 * unset l.n l.p.on l.p.off + 2
+decreases-follow l = 3 * unset l.f.variables l.p.yes l.p.no + 2
 
 abbrev pub decreases-force : goal.decreases-force
-decreases-force l = 3 * unset l.n l.p.on l.p.off
+decreases-force l = 3 * unset l.f.variables l.p.yes l.p.no
 
 abbrev pub decreases-try_variable : goal.decreases-try_variable
-decreases-try_variable l = 3 * unset l.n l.p.on l.p.off + 1
+decreases-try_variable l = 3 * unset l.f.variables l.p.yes l.p.no + 1

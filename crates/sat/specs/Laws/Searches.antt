@@ -1,24 +1,21 @@
 -- The steps of `follow`, `force`, `try_variable` and `search`: a law for each. Assumes nothing.
-use Rattle.std.specs.Prelude.{◌≡◌, ◌≢◌, Bool, true, false, List, ℕ, ◌+◌, ◌*◌, ◌≤◌, ◌<◌}
+use Rattle.std.specs.Prelude.{◌≡◌, ◌≢◌, Bool, true, false, List, ℕ, ◌+◌, ◌*◌, ◌≤◌, ◌<◌, Option, Some, None, Result, Ok, Err}
 use Rattle.std.proofs.Common.{sym, ap, subst, ◌∙◌, inl, arith}
 use Rattle.std.proofs.Math.Logic.{by_cases}
 use Rattle.std.proofs.Math.Decide.{ℕ_discrete, dec_lt}
 use Rattle.sets.specs.Sets.{bit, has, union, inter, diff, remove, compl, Within, Lowest}
 use Rattle.sets.specs.Laws.Bits.{bit_le, bit_union, bit_inter, bit_compl, bit_compl_high, union_lt, inter_lt, compl_lt, remove_lt, member_lt}
 use Rattle.sets.specs.Laws.Subset.{within_refl, in_union}
+use Rattle.literals.specs.declared.LiteralSet.{LiteralSet}
 use Rattle.propagation.specs.Promises.{Assigned, Forces, Chosen, PassedAll, Acting, Placed, Hands, HandedUp, Resolvent}
 use Rattle.propagation.specs.Laws.Assigns.{digit_has, assigned_other}
 use Rattle.propagation.specs.Laws.Places.{placed_acts, failed_acts, left_some, lowest_forced, none_left, some_left}
 use Rattle.propagation.specs.Laws.Resolution.{resolved_obeyed, resolved_conflicts}
-use Rattle.propagation.specs.declared.pass.Rule.{Rule}
 use Rattle.propagation.specs.declared.pass.Pass.{Pass}
 use Rattle.sat.specs.Meaning.{Model, NoModel}
 use Rattle.sat.specs.Promises.{Posed, Unset, unset, Implied, Following, Forcing, Trying, Ends, Followed, PartialOf, Completes, Keeps, Searched}
 use Rattle.sat.specs.Laws.Assigns.{model_assigned, assigned_model, posed_assigned, unset_less}
 use Rattle.sat.specs.Laws.Implied.{listed_implied, conflict_none, forced_value, met_model}
-use Rattle.sat.specs.declared.Branch.{Branch}
-use Rattle.sat.specs.declared.SearchResult.{SearchResult}
-use Rattle.sat.specs.declared.SearchResult.TheVariants.{Found, Nothing}
 
 -- ---- `complete`
 
@@ -55,14 +52,14 @@ posed_partial f = record { small = f.posed.small; on_below = f.posed.on_below; a
 
 module _ {n : ℕ} {ys ns : List ℕ} {on off base : ℕ} {p : Pass} where
   -- a rule is a conflict
-  pub follow_conflict : {rule : Rule} → Following n ys ns on off base → PassedAll ys ns on off p → p ≡ Pass.Conflict rule
-      → Followed n ys ns on off base (Branch.Implied rule)
+  pub follow_conflict : {rule : LiteralSet} → Following n ys ns on off base → PassedAll ys ns on off p → p ≡ Pass.Conflict rule
+      → Followed n ys ns on off base (Err rule)
   follow_conflict f s e =
       let t = (subst (PassedAll ys ns on off) e s).said in
       record { ends = (listed_implied f.posed t.0, record { place = inl t.1 }) }
 
   -- a rule forces a variable
-  pub follow_unit : {rule : Rule} {next : ℕ} → Following n ys ns on off base → PassedAll ys ns on off p → p ≡ Pass.Unit rule next
+  pub follow_unit : {rule : LiteralSet} {next : ℕ} → Following n ys ns on off base → PassedAll ys ns on off p → p ≡ Pass.Unit rule next
       → Forcing n ys ns on off base rule.yes rule.no
   follow_unit f s e =
       let t = (subst (PassedAll ys ns on off) e s).said in
@@ -70,7 +67,7 @@ module _ {n : ℕ} {ys ns : List ℕ} {on off base : ℕ} {p : Pass} where
 
   -- each rule has a true literal
   pub follow_model : {x m : ℕ} → Following n ys ns on off base → PassedAll ys ns on off p → p ≡ Pass.Quiet x → x ≡ 0
-      → Completes n on off m → Followed n ys ns on off base (Branch.Model m)
+      → Completes n on off m → Followed n ys ns on off base (Ok m)
   follow_model {x} {m} f s e z c =
       let t = (subst (PassedAll ys ns on off) e s).said in
       record { ends = met_model (t.none_met z) c }
@@ -85,8 +82,8 @@ module _ {n : ℕ} {ys ns : List ℕ} {on off base : ℕ} {p : Pass} where
 -- ---- a variable set, and unset again where the branch failed: `force` and `try_variable`
 
 -- a model of the branch is one without the variable set
-pub branch_model : {n : ℕ} {ys ns : List ℕ} {on off v c d s base g : ℕ} {value : Bool} {r : Branch} → Assigned on off v value c d → Followed n ys ns c d s r
-    → r ≡ Branch.Model g → Followed n ys ns on off base (Branch.Model g)
+pub branch_model : {n : ℕ} {ys ns : List ℕ} {on off v c d s base g : ℕ} {value : Bool} {r : Result ℕ LiteralSet} → Assigned on off v value c d → Followed n ys ns c d s r
+    → r ≡ Ok g → Followed n ys ns on off base (Ok g)
 branch_model {n} {ys} {ns} {on} {off} {v} {c} {d} {s} a z q = record { ends = (assigned_model a (subst (Followed n ys ns c d s) q z).ends).0 }
 
 module _ {n : ℕ} {ys ns : List ℕ} {on off v c d s : ℕ} {value : Bool} (p : Posed n ys ns on off) (u : Unset n on off v) (a : Assigned on off v value c d)
@@ -104,8 +101,8 @@ module _ {n : ℕ} {ys ns : List ℕ} {on off v c d s : ℕ} {value : Bool} (p :
         };
       }
 
-  module _ {r : Branch} {rule : Rule} (z : Followed n ys ns c d s r) (q : r ≡ Branch.Implied rule) where
-    failed : Ends n ys ns c d s (Branch.Implied rule)
+  module _ {r : Result ℕ LiteralSet} {rule : LiteralSet} (z : Followed n ys ns c d s r) (q : r ≡ Err rule) where
+    failed : Ends n ys ns c d s (Err rule)
     failed = (subst (Followed n ys ns c d s) q z).ends
 
     -- the rule of the branch, handed up or not
@@ -113,7 +110,7 @@ module _ {n : ℕ} {ys ns : List ℕ} {on off v c d s : ℕ} {value : Bool} (p :
     handed {base} k i =
         (subst (HandedUp base rule.yes rule.no on off) i k).said (failed_acts u.not_on u.not_off a w failed.1)
 
-    handed_followed : {base : ℕ} {h : Bool} → HandedUp base rule.yes rule.no on off h → h ≡ true → Followed n ys ns on off base (Branch.Implied rule)
+    handed_followed : {base : ℕ} {h : Bool} → HandedUp base rule.yes rule.no on off h → h ≡ true → Followed n ys ns on off base (Err rule)
     handed_followed k i = record { ends = (failed.0, handed k i) }
 
 -- ---- `force`
@@ -141,15 +138,15 @@ module _ {n : ℕ} {ys ns : List ℕ} {on off base y m : ℕ} where
     pub force_less : {k : ℕ} → 3 * unset n on off ≡ k → 3 * unset n c d + 2 < k
     force_less q = omega (arith, unset_less {a = c} {b = d} f.following.posed (forced_unset f.implied t) s)
 
-    module _ {r : Branch} {rule : Rule} {h : Bool} (z : Followed n ys ns c d base r) (q : r ≡ Branch.Implied rule)
+    module _ {r : Result ℕ LiteralSet} {rule : LiteralSet} {h : Bool} (z : Followed n ys ns c d base r) (q : r ≡ Err rule)
         (k : HandedUp base rule.yes rule.no on off h) where
       -- a rule that is handed up
-      pub force_handed : h ≡ true → Followed n ys ns on off base (Branch.Implied rule)
+      pub force_handed : h ≡ true → Followed n ys ns on off base (Err rule)
       force_handed i = handed_followed f.following.posed (forced_unset f.implied t) s f.following.base_set z q k i
 
       -- a rule, resolved with the one that forced the variable
-      pub force_resolved : {got : Rule} → value ≡ has y v → h ≡ false → Resolvent v rule.yes rule.no y m got.yes got.no
-          → Followed n ys ns on off base (Branch.Implied got)
+      pub force_resolved : {got : LiteralSet} → value ≡ has y v → h ≡ false → Resolvent v rule.yes rule.no y m got.yes got.no
+          → Followed n ys ns on off base (Err got)
       force_resolved {got} e i o =
           rw (o.yes_said, o.no_said) (record {
             ends = (
@@ -158,7 +155,7 @@ module _ {n : ℕ} {ys ns : List ℕ} {on off base y m : ℕ} where
             );
           })
         where
-          last : Ends n ys ns c d base (Branch.Implied rule)
+          last : Ends n ys ns c d base (Err rule)
           last = failed f.following.posed (forced_unset f.implied t) s f.following.base_set z q
 
           stays : Placed base rule.yes rule.no on off → ⊥
@@ -196,10 +193,10 @@ module _ {n : ℕ} {ys ns : List ℕ} {on off base x : ℕ} where
     pub try_less : {k : ℕ} → 3 * unset n on off + 1 ≡ k → 3 * unset n c d + 2 < k
     try_less q = omega (arith, unset_less {a = c} {b = d} f.following.posed u a)
 
-    module _ {r : Branch} {rule : Rule} {h : Bool} (z : Followed n ys ns c d s r) (q : r ≡ Branch.Implied rule)
+    module _ {r : Result ℕ LiteralSet} {rule : LiteralSet} {h : Bool} (z : Followed n ys ns c d s r) (q : r ≡ Err rule)
         (k : HandedUp base rule.yes rule.no on off h) where
       -- a rule that is handed up, or acted on here
-      pub try_handed : h ≡ true → Followed n ys ns on off base (Branch.Implied rule)
+      pub try_handed : h ≡ true → Followed n ys ns on off base (Err rule)
       try_handed i = handed_followed f.following.posed u a all_set z q k i
 
       pub try_forcing : h ≡ false → Forcing n ys ns on off base rule.yes rule.no
@@ -227,12 +224,12 @@ module _ {n : ℕ} {ys ns : List ℕ} {on off : ℕ} where
     pub search_following : Keeps n ys ns on off a b → base ≡ union a b → Following n ys ns a b base
     search_following k e = record { posed = k.posed; base_set = rw e (within_refl (union a b)) }
 
-    module _ {r : Branch} (k : Keeps n ys ns on off a b) (z : Followed n ys ns a b base r) where
+    module _ {r : Result ℕ LiteralSet} (k : Keeps n ys ns on off a b) (z : Followed n ys ns a b base r) where
       -- a model
-      pub search_model : {f : ℕ} → r ≡ Branch.Model f → Searched n ys ns on off (Found f)
+      pub search_model : {f : ℕ} → r ≡ Ok f → Searched n ys ns on off (Some f)
       search_model {f} q = record { found = k.back f (subst (Followed n ys ns a b base) q z).ends }
 
-      module _ {rule : Rule} {l : ℕ} (q : r ≡ Branch.Implied rule) (d : l ≡ diff (union rule.yes rule.no) (union a b)) where
+      module _ {rule : LiteralSet} {l : ℕ} (q : r ≡ Err rule) (d : l ≡ diff (union rule.yes rule.no) (union a b)) where
         implied : Implied n ys ns rule.yes rule.no
         implied = (subst (Followed n ys ns a b base) q z).ends.0
 
@@ -240,7 +237,7 @@ module _ {n : ℕ} {ys ns : List ℕ} {on off : ℕ} where
         acting_here = placed_acts (subst (Followed n ys ns a b base) q z).ends.1
 
         -- a conflict
-        pub search_none : l ≡ 0 → Searched n ys ns on off Nothing
+        pub search_none : l ≡ 0 → Searched n ys ns on off None
         search_none e = record { found = record { none = λ f m. conflict_none implied (k.forth f m) (none_left d acting_here e) } }
 
         -- one more variable
@@ -266,9 +263,9 @@ pub ruleset search_laws = (search_start, search_following, search_model, search_
 
 -- ---- what a caller reads of the answer
 
-module _ {n : ℕ} {ys ns : List ℕ} {on off : ℕ} {r : SearchResult} where
-  pub searched_model : {m : ℕ} → Searched n ys ns on off r → r ≡ Found m → Model n ys ns on off m
+module _ {n : ℕ} {ys ns : List ℕ} {on off : ℕ} {r : Option ℕ} where
+  pub searched_model : {m : ℕ} → Searched n ys ns on off r → r ≡ Some m → Model n ys ns on off m
   searched_model s e = (subst (Searched n ys ns on off) e s).found
 
-  pub searched_none : Searched n ys ns on off r → r ≡ Nothing → NoModel n ys ns on off
+  pub searched_none : Searched n ys ns on off r → r ≡ None → NoModel n ys ns on off
   searched_none s e = (subst (Searched n ys ns on off) e s).found

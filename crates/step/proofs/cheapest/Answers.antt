@@ -1,16 +1,11 @@
 -- `step::cheapest` meets its contract. Assumes nothing.
-use Rattle.std.proofs.Common.{rules}
-use Rattle.step.specs.Laws.AllGoals.{bound_laws}
+use Rattle.step.specs.Laws.AllGoals.{bound_row, bound_least}
 use Rattle.step.proofs.cheapest.Goals as goal
 
-pub weigh-weights-requires : goal.weigh-weights-requires
-weigh-weights-requires c = search (rules, bound_laws)
-
 pub aim_at-aim-requires : goal.aim_at-aim-requires
-aim_at-aim-requires c = search (rules, bound_laws)
-
-pub known_key-bound-requires : goal.known_key-bound-requires
-known_key-bound-requires c = search (rules, bound_laws)
+aim_at-aim-requires c = bound_row c.requires c.open_goals.ensures c.lowest-v.ensures
 
 pub returns : goal.returns
-returns c = search (rules, bound_laws)
+returns c =
+    bound_least c.requires c.open_goals.ensures c.lowest-v.ensures c.weigh-weights.ensures c.has.ensures c.aim_at-aim.ensures c.known_key-bound.ensures
+    c.cheapest_under.ensures

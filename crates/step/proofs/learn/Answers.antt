@@ -1,13 +1,6 @@
--- `step::learn` meets its contract. Assumes nothing.
-use Rattle.std.proofs.Common.{rules}
-use Rattle.step.proofs.Steps.{learn_laws}
+-- `step::learn` meets its contract: the reasons have a model. Assumes nothing.
+use Rattle.step.proofs.Steps.{learn_absurd}
 use Rattle.step.proofs.learn.Goals as goal
 
-pub propagate-requires : goal.propagate-requires
-propagate-requires c = rw c.of_literals-p.ensures (search rules)
-
-pub returns-in-NoModel : goal.returns-in-NoModel
-returns-in-NoModel c = search (rules, learn_laws, rw c.of_literals-p.ensures at c.propagate.ensures)
-
-pub returns-in-Forced : goal.returns-in-Forced
-returns-in-Forced c = search (rules, learn_laws, rw c.of_literals-p.ensures at c.propagate.ensures)
+pub returns-in-None : goal.returns-in-None
+returns-in-None c = learn_absurd c.requires (rw (c.formula.ensures.variables, c.formula.ensures.rules) at c.propagate.ensures) c.in-None.is

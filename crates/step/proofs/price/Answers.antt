@@ -11,8 +11,3 @@ cost_of-requires c =
     let handed : to_z w8 (of_z w8 c.literal.result) ≡ literal_of c.args.v c.args.says = same_literal c.args.v c.args.says _ c.literal.ensures (omega arith) in
     let w = literal_row c.args.v c.args.says c.requires in
     rw handed (record { l_nonzero = w.0; l_bound = w.1 })
-
-pub returns : goal.returns
-returns c =
-    let handed : to_z w8 (of_z w8 c.literal.result) ≡ literal_of c.args.v c.args.says = same_literal c.args.v c.args.says _ c.literal.ensures (omega arith) in
-    rw handed at c.cost_of.ensures

@@ -1,5 +1,5 @@
 -- The search over all goals: a law for each step of the code, and the bound that it starts with. Assumes nothing.
-use Rattle.std.specs.Prelude.{◌≡◌, refl, ◌⊎◌, Bool, List, ℕ, ◌+◌, ◌^◌, ◌<◌}
+use Rattle.std.specs.Prelude.{◌≡◌, refl, ◌⊎◌, Bool, List, [], ℕ, ◌+◌, ◌^◌, ◌<◌}
 use Rattle.std.proofs.Common.{sym, subst, ◌∙◌, inl, inr, arith}
 use Rattle.std.proofs.Math.Path.{ap}
 use Rattle.std.proofs.Math.Logic.{by_cases}
@@ -7,7 +7,7 @@ use Rattle.std.proofs.Math.Decide.{ℕ_discrete}
 use Rattle.sets.specs.Sets.{width, bit, has, union, remove, Apart, Lowest}
 use Rattle.sets.specs.Laws.Bits.{bit_le, bit_zero, bit_remove_same, bit_remove_other}
 use Rattle.sets.specs.Laws.Subset.{within_refl, within_trans}
-use Rattle.items.specs.Cheapest.{least_minimum, least_none, least_both, least_same, remove_within, remove_less}
+use Rattle.items.specs.Cheapest.{least_minimum, least_none, least_both, least_same, remove_within}
 use Rattle.items.specs.Witnesses.{pool_empty}
 use Rattle.literals.specs.declared.LiteralSet.{LiteralSet}
 use Rattle.records.specs.Limits.{max_choices}
@@ -16,7 +16,6 @@ use Rattle.witnesses.specs.Promises.{key_at, Pooled}
 use Rattle.reasons.specs.Promises.{Exploring, Explored}
 use Rattle.witnesses.specs.declared.Aim.{Aim}
 use Rattle.witnesses.specs.declared.Part.{Part}
-use Rattle.witnesses.specs.declared.State.{State}
 use Rattle.step.specs.Meaning.{yes_goals, no_goals, goals}
 use Rattle.step.specs.Promises.{Weighed, sum_of, mask_question, aim_at, whole, open_goals, Ready, ReadyWithGoal, Picks, GoalAndSet, LeastUnder}
 use Rattle.step.specs.Promises.{LeastFound, Trying, Searching}
@@ -24,19 +23,17 @@ use Rattle.step.specs.Laws.Known.{Forcing, all_picked}
 use Rattle.step.specs.Laws.Goals.{Open, aim_of, goal_open, known_apart, known_total, aim_key, known_fits, goal_exploring, goal_found, Mine}
 
 module _ {n : ℕ} {ys ns : List ℕ} {table : List (List ℕ)} {c k : LiteralSet} {bound : ℕ} where
-  pub searching_start : {left : ℕ} {ms : List ℕ} {state : State} → left ≡ open_goals c k → state.best ≡ bound → state.used ≡ 0
-      → Searching n ys ns table c k bound left ms state
+  pub searching_start : {left : ℕ} {ms : List ℕ} → left ≡ open_goals c k → ms ≡ [] → Searching n ys ns table c k bound left ms bound
   unfolding goals yes_goals no_goals
-  searching_start {left} e b z =
-      rw (b, z)
-      (record {
+  searching_start {left} e z =
+      record {
         untried = rw e (within_refl (open_goals c k));
         cheapest = λ ch. least_none (λ t h. omega (arith, h.tried, h.picks.goal, ap (λ (m : ℕ). bit m t.goal) e));
-        pooled = pool_empty;
-      })
+        pooled = rw z pool_empty;
+      }
 
-  pub searching_done : {left : ℕ} {ms : List ℕ} {state : State} → Searching n ys ns table c k bound left ms state → left ≡ 0
-      → LeastUnder n ys ns table c k bound state.best
+  pub searching_done : {left : ℕ} {ms : List ℕ} {best : ℕ} → Searching n ys ns table c k bound left ms best → left ≡ 0
+      → LeastUnder n ys ns table c k bound best
   searching_done {left} s e =
       record {
         cheapest = λ ch.
@@ -44,10 +41,10 @@ module _ {n : ℕ} {ys ns : List ℕ} {table : List (List ℕ)} {c k : LiteralSe
             (λ t h. (t, h.picks, refl)) (s.cheapest ch);
       }
 
-  pub searching_pooled : {left : ℕ} {ms : List ℕ} {state : State} → Searching n ys ns table c k bound left ms state → Pooled n ys ns ms state.used
+  pub searching_pooled : {left : ℕ} {ms : List ℕ} {best : ℕ} → Searching n ys ns table c k bound left ms best → Pooled n ys ns ms
   searching_pooled s = s.pooled
 
-  module _ (x : Ready n ys ns table c k) {left v : ℕ} {ms : List ℕ} {state : State} (s : Searching n ys ns table c k bound left ms state)
+  module _ (x : Ready n ys ns table c k) {left v : ℕ} {ms : List ℕ} {best : ℕ} (s : Searching n ys ns table c k bound left ms best)
       (l : Lowest left v) where
     pub searching_open : Open n c k v
     searching_open =
@@ -62,7 +59,7 @@ module _ {n : ℕ} {ys ns : List ℕ} {table : List (List ℕ)} {c k : LiteralSe
       searching_explore = rw (b, a) (goal_exploring x w v searching_open q)
 
       -- one goal more is tried
-      pub searching_more : {r : State} {us : List ℕ} {rest : ℕ} → Explored n ys ns ws aim part state.best us r → rest ≡ remove left v
+      pub searching_more : {r : ℕ} {us : List ℕ} {rest : ℕ} → Explored n ys ns ws aim part best us r → rest ≡ remove left v
           → Searching n ys ns table c k bound rest us r
       searching_more {r} {us} {rest} e d =
           rw d
@@ -72,7 +69,7 @@ module _ {n : ℕ} {ys ns : List ℕ} {table : List (List ℕ)} {c k : LiteralSe
             pooled = e.pooled;
           })
         where
-          here : Explored n ys ns ws (aim_of table c k v) (whole (aim_of table c k v)) state.best us r
+          here : Explored n ys ns ws (aim_of table c k v) (whole (aim_of table c k v)) best us r
           here = rw (b, a, q, searching_open.says) at e
 
           split : (ch : ℕ) (t : GoalAndSet) → Trying (mask_question n ys ns ch table c k) (remove left v) t
@@ -93,11 +90,7 @@ module _ {n : ℕ} {ys ns : List ℕ} {table : List (List ℕ)} {c k : LiteralSe
                 tried = ap (bit (remove left v)) h.same ∙ bit_remove_same left v;
               }
 
-  pub searching_less : {left v rest : ℕ} {ms : List ℕ} {state : State} → Searching n ys ns table c k bound left ms state → Lowest left v
-      → rest ≡ remove left v → rest < left
-  searching_less {left} {v} s l e = omega (arith, e, remove_less left v l.least.member)
-
-pub ruleset searching_laws = (searching_start, searching_pooled, searching_row, searching_explore, searching_more, searching_less, searching_done)
+pub ruleset searching_laws = (searching_start, searching_pooled, searching_row, searching_explore, searching_more, searching_done)
 
 -- ---- the bound: all that is known with the lowest goal
 

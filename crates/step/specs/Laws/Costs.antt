@@ -1,18 +1,20 @@
 -- What sets of literals cost, and what known ones weigh in a key. Assumes nothing.
-use Rattle.std.specs.Prelude.{◌≡◌, Bool, not, List, length, set}
+use Rattle.std.specs.Prelude.{◌≡◌, Bool, not, List, length, set, take}
 use Rattle.std.proofs.Math.Path.{refl, ap, ap₂}
-use Rattle.std.proofs.Common.{sym, ◌∙◌, arith, length-set, get_or-set_same, get_or-set_other}
+use Rattle.std.proofs.Common.{sum, sym, ◌∙◌, arith, length-set, get_or-set_same, get_or-set_other}
 use Rattle.std.proofs.Math.Logic.{by_cases}
 use Rattle.std.proofs.Math.Bool.{true, false}
 use Prim.Native.Nat.{ℕ, zero, suc, ◌+◌, ◌*◌, ◌^◌, ◌≤◌, ◌<◌, min, max}
 use Rattle.std.proofs.Math.Decide.{ℕ_discrete}
 use Rattle.std.proofs.Math.Numerals.{add-one}
+use Rattle.std.proofs.Math.Seq.{take-length}
+use Rattle.std.proofs.lemmas.List.Sums.{sum_by_more}
 use Rattle.sets.specs.Sets.{bit, has, union, inter, insert, count, Within, Apart}
 use Rattle.sets.specs.Laws.Bits.{bit_le, bit_union, bit_inter}
 use Rattle.sets.specs.Laws.Subset.{has_true, has_false, within_refl, within_insert}
 use Rattle.items.specs.Weights.{sum_below, total}
 use Rattle.items.specs.Promises.{weight_in}
-use Rattle.items.specs.Laws.Sums.{sum_same, sum_add, sum_times, sum_bound, sum_part, digits_sum, digits_count, total_le, total_insert, total_width}
+use Rattle.items.specs.Laws.Sums.{sum_same, sum_add, sum_times, sum_bound, digits_sum, digits_count, total_le, total_insert, total_width}
 use Rattle.literals.specs.Literal.{literal_of}
 use Rattle.records.specs.Limits.{max_choices}
 use Rattle.problem.specs.Problem.{cost_of, literal_cost}
@@ -160,24 +162,19 @@ module _ (table : List (List ℕ)) (on off v : ℕ) where
   pub weight_none : {b c : Bool} → b ≡ has on v → b ≡ false → c ≡ has off v → c ≡ false → 0 ≡ item_weight table on off v
   weight_none e t d s = omega (arith, weight_at 0 0 (has_false on v (sym e ∙ t)) (has_false off v (sym d ∙ s)))
 
--- ---- `sum`
+pub ruleset weighed_laws = (weighed_none, weighed_more, weighed_all)
 
-pub record SummedTo (ws : List ℕ) (sum i : ℕ) : Type 0 where
-  pub done : i ≤ max_choices
-  pub is : sum ≡ sum_below i (weight_in ws)
+pub ruleset weight_laws = (weight_yes, weight_no, weight_none)
 
-module _ {ws : List ℕ} where
-  pub summed_none : SummedTo ws 0 0
-  unfolding sum_below
-  summed_none = record { done = omega arith; is = refl }
+-- ---- the sum of all weights
 
-  pub summed_more : {sum i : ℕ} → SummedTo ws sum i → i < max_choices → SummedTo ws (sum + weight_in ws i) (i + 1)
-  unfolding sum_below
-  summed_more x h = rw add-one (record { done = omega arith; is = omega (arith, x.is) })
+sum_taken : (ws : List ℕ) (n : ℕ) → n ≤ length ws → sum_below n (weight_in ws) ≡ sum (take n ws)
+unfolding sum_below
+sum_taken ws zero h = refl
+sum_taken ws (suc n) h =
+    ap (λ (k : ℕ). k + weight_in ws n) (sum_taken ws n (omega arith)) ∙ sym (sum_by_more (λ (w : ℕ). w) ws n 0 (omega arith)) ∙ rw add-one refl
 
-  -- no part of the sum is above it
-  pub summed_fits : {sum i : ℕ} → SummedTo ws sum i → i < max_choices → sum + weight_in ws i ≤ sum_of ws
-  summed_fits {sum} {i} x h = let y = summed_more x h in omega (arith, y.is, sum_part max_choices (i + 1) (weight_in ws) y.done)
-
-  pub summed_all : {sum i : ℕ} → SummedTo ws sum i → max_choices ≤ i → sum ≡ sum_of ws
-  summed_all {sum} {i} x h = let end : i ≡ max_choices = omega (arith, x.done) in x.is ∙ ap (λ (k : ℕ). sum_below k (weight_in ws)) end
+-- the sum of the list of them
+pub sum_all : (ws : List ℕ) → length ws ≡ max_choices → sum ws ≡ sum_of ws
+sum_all ws e =
+    sym (ap (λ (n : ℕ). sum_below n (weight_in ws)) (sym e) ∙ sum_taken ws (length ws) (omega arith) ∙ ap sum (take-length ws))

@@ -26,7 +26,6 @@ use Rattle.witnesses.specs.Promises.{aim_on, aim_off, Refutes, key_at}
 use Rattle.reasons.specs.Promises.{Sought, Exploring, Explored}
 use Rattle.witnesses.specs.Laws.Questions.{aim_posed}
 use Rattle.witnesses.specs.declared.Aim.{Aim}
-use Rattle.witnesses.specs.declared.State.{State}
 use Rattle.step.specs.Meaning.{Question, set_cost, yes_goals, no_goals, goals, reasons_on, reasons_off, against_on, against_off, candidate_cost}
 use Rattle.step.specs.Promises.{known_cost, fact_unit, cost_unit, item_weight, Weighed, sum_of, key_of, Small, mask_question, aim_at, whole, open_goals, Ready}
 use Rattle.step.specs.Promises.{Picks, GoalAndSet, key_of_pair}
@@ -214,9 +213,9 @@ pub record Mine (q : Question) (v : ℕ) (t : GoalAndSet) : Type 0 where
 
 module _ {n : ℕ} {ys ns : List ℕ} {table : List (List ℕ)} {c k : LiteralSet} (x : Ready n ys ns table c k) {ws : List ℕ}
     (w : Weighed table k.yes k.no ws) (v : ℕ) (o : Open n c k v) where
-  pub goal_found : {best : ℕ} {us : List ℕ} {r : State} → (ch : ℕ)
+  pub goal_found : {best : ℕ} {us : List ℕ} {r : ℕ} → (ch : ℕ)
       → Explored n ys ns ws (aim_of table c k v) (whole (aim_of table c k v)) best us r
-      → Least (Mine (mask_question n ys ns ch table c k) v) (key_of_pair (mask_question n ys ns ch table c k)) best r.best
+      → Least (Mine (mask_question n ys ns ch table c k) v) (key_of_pair (mask_question n ys ns ch table c k)) best r
   unfolding goals yes_goals no_goals
   goal_found ch e = least_same back forth e.cheapest
     where

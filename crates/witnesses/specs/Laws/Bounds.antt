@@ -1,6 +1,6 @@
 -- The bound of a part, from the pool alone: a law for each step of its functions. They are those of `Witnesses` and `Bounds` of crate `items`, for the
 -- known literals with one goal. Assumes nothing.
-use Rattle.std.specs.Prelude.{◌≡◌, refl, ◌⊎◌, Bool, true, false, not, cond, List, ℕ, ◌+◌, ◌*◌, ◌^◌, ◌≤◌, ◌<◌, get_or}
+use Rattle.std.specs.Prelude.{◌≡◌, refl, ◌⊎◌, Bool, true, false, not, cond, List, ℕ, ◌+◌, ◌*◌, ◌^◌, ◌≤◌, ◌<◌, length, get_or, Some, None, Option}
 use Rattle.std.proofs.Common.{sym, ap, subst, ◌∙◌, inl, inr, arith}
 use Rattle.std.proofs.lemmas.Bool.{not-false}
 use Rattle.sets.specs.Sets.{width, bit, has, inter, diff, Within}
@@ -17,15 +17,8 @@ use Rattle.witnesses.specs.Promises.{denied_by, makes_true, Denies, Meeting, Ope
 use Rattle.witnesses.specs.declared.Aim.{Aim}
 use Rattle.witnesses.specs.declared.Part.{Part}
 use Rattle.witnesses.specs.declared.bound.Bounds.{Bounds}
-use Rattle.witnesses.specs.declared.bound.Witness.{Witness}
 
--- ---- `makes_true` and `witness_of`
-
-pub true_yes : (aim : Aim) (f : ℕ) {h : Bool} → h ≡ has f aim.goal → aim.says ≡ true → h ≡ makes_true aim f
-true_yes aim f e s = rw s e
-
-pub true_no : (aim : Aim) (f : ℕ) {h : Bool} → h ≡ has f aim.goal → aim.says ≡ false → not h ≡ makes_true aim f
-true_no aim f e s = rw s (ap not e)
+-- ---- `open_witness`
 
 false_denies : (aim : Aim) (f : ℕ) → makes_true aim f ≡ false → Denies aim f
 false_denies aim f = go aim.says (has f aim.goal) refl
@@ -34,18 +27,21 @@ false_denies aim f = go aim.says (has f aim.goal) refl
     go true h e t = has_false f aim.goal (e ∙ t)
     go false h e t = has_true f aim.goal (e ∙ not-false h t)
 
-pub shown_open : {aim : Aim} {part : Part} {f d x o : ℕ} {t : Bool} → t ≡ makes_true aim f → t ≡ false → d ≡ denied_by aim.on aim.off f
-    → x ≡ inter d part.chosen → x ≡ 0 → o ≡ inter d part.limit → Shown aim part f (Witness.Open o)
+pub shown_open : {aim : Aim} {part : Part} {f d x o : ℕ} {t : Bool} → t ≡ makes_true aim f → t ≡ false → d ≡ denied_by aim.known.yes aim.known.no f
+    → x ≡ inter d part.chosen → x ≡ 0 → o ≡ inter d part.limit → Shown aim part f (Some o)
 shown_open {aim} {part} {f} {d} {x} e z p q n r =
     record {
-      said = record {
+      opens = λ u y. record {
         denies = false_denies aim f (sym e ∙ z);
         apart = record { avoids = avoids };
-        is = r ∙ ap (λ (m : ℕ). inter m part.limit) p;
+        is = same_some (sym y) ∙ r ∙ ap (λ (m : ℕ). inter m part.limit) p;
       };
     }
   where
-    avoids : (v : ℕ) → bit part.chosen v + bit (denied_by aim.on aim.off f) v ≤ 1
+    same_some : {a c : ℕ} → Some a ≡ Some c → a ≡ c
+    same_some e = cc
+
+    avoids : (v : ℕ) → bit part.chosen v + bit (denied_by aim.known.yes aim.known.no f) v ≤ 1
     avoids v =
         omega (
           arith,
@@ -57,8 +53,13 @@ shown_open {aim} {part} {f} {d} {x} e z p q n r =
           bit_le d v,
         )
 
-pub shown_opens : {aim : Aim} {part : Part} {f o : ℕ} {r : Witness} → Shown aim part f r → r ≡ Witness.Open o → Opens aim part f o
-shown_opens {aim} {part} {f} s e = (subst (Shown aim part f) e s).said
+pub shown_none : {aim : Aim} {part : Part} {f : ℕ} → Shown aim part f None
+shown_none = record { opens = λ o e. absurd (cc) }
+
+pub shown_opens : {aim : Aim} {part : Part} {f o : ℕ} {r : Option ℕ} → Shown aim part f r → r ≡ Some o → Opens aim part f o
+shown_opens {o = o} s e = s.opens o e
+
+pub ruleset shown_laws = (shown_open, shown_none)
 
 -- ---- `noted` and `charge`
 
@@ -66,7 +67,7 @@ module _ {b : Bounds} {o : ℕ} where
   pub noted_old : Noted b o b
   noted_old = record { same_bound = refl; one_of = inr refl }
 
-  pub noted_new : {r : Bounds} → r.bound ≡ b.bound → r.witness ≡ o → Noted b o r
+  pub noted_new : {r : Bounds} → r.bound ≡ b.bound → r.witness ≡ Some o → Noted b o r
   noted_new e w = record { same_bound = e; one_of = inl w }
 
   pub charge_none : {left : List ℕ} → Charged left b o left b
@@ -99,36 +100,36 @@ pub ruleset charge_laws = (charge_none, charge_rows, charge_fits, charge_some)
 -- ---- `bound_part`
 
 -- what a filling of the pool shows is met by every set that meets the pool
-open_hit : {aim : Aim} {part : Part} {ms : List ℕ} {used i o : ℕ} → i < used → Opens aim part (get_or ms i 0) o
-    → Hit (Meeting aim ms used) part.chosen part.limit o
-open_hit {aim} {part} {ms} {used} {i} h x =
-    subst (λ (m : ℕ). Hit (Meeting aim ms used) part.chosen part.limit m) (sym x.is)
+open_hit : {aim : Aim} {part : Part} {ms : List ℕ} {i o : ℕ} → i < length ms → Opens aim part (get_or ms i 0) o
+    → Hit (Meeting aim ms) part.chosen part.limit o
+open_hit {aim} {part} {ms} {i} h x =
+    subst (λ (m : ℕ). Hit (Meeting aim ms) part.chosen part.limit m) (sym x.is)
     (hit_within (record { apart = x.apart; meets = λ t p. p.holds.meets i h x.denies }))
 
 open_within : {aim : Aim} {part : Part} {f o : ℕ} → Opens aim part f o → Within o part.limit
 open_within {aim} {part} {f} x =
-    record { keeps = λ v. omega (arith, ap (λ (m : ℕ). bit m v) x.is, bit_inter (denied_by aim.on aim.off f) part.limit v) }
+    record { keeps = λ v. omega (arith, ap (λ (m : ℕ). bit m v) x.is, bit_inter (denied_by aim.known.yes aim.known.no f) part.limit v) }
 
-module _ {ws : List ℕ} {aim : Aim} {part : Part} {ms : List ℕ} {used : ℕ} where
-  pub charging_start : {b : Bounds} → Parted ws aim part → b.bound ≡ part.key → b.witness ≡ 0 → Charging ws aim part ms used ws b
+module _ {ws : List ℕ} {aim : Aim} {part : Part} {ms : List ℕ} where
+  pub charging_start : {b : Bounds} → Parted ws aim part → b.bound ≡ part.key → b.witness ≡ None → Charging ws aim part ms ws b
   charging_start {b} p e z =
       record {
         rows = p.rows;
         from_key = omega arith;
         bounding = rw (e, p.keyed) (bounding_start aim.key (weight_in ws) max_choices part.chosen part.limit p.nested);
-        witnessed = record { hits = λ ne. absurd (ne z) };
+        witnessed = record { hits = λ w e. absurd (cc) };
       }
 
-  module _ {left : List ℕ} {b : Bounds} (x : Charging ws aim part ms used left b) where
-    pub charging_done : Bounded ws aim part ms used left b
+  module _ {left : List ℕ} {b : Bounds} (x : Charging ws aim part ms left b) where
+    pub charging_done : Bounded ws aim part ms left b
     charging_done = record { rows = x.rows; from_key = x.from_key; lower = x.bounding.lower; witnessed = x.witnessed }
 
-    module _ {i o : ℕ} (h : i < used) (s : Opens aim part (get_or ms i 0) o) where
-      shown : Hit (Meeting aim ms used) part.chosen part.limit o
+    module _ {i o : ℕ} (h : i < length ms) (s : Opens aim part (get_or ms i 0) o) where
+      shown : Hit (Meeting aim ms) part.chosen part.limit o
       shown = open_hit h s
 
       -- no item of the witness is within the limit: there is no candidate
-      pub charging_none : {r : Bounds} → o ≡ 0 → b.bound ≤ r.bound → r.witness ≡ b.witness → Bounded ws aim part ms used left r
+      pub charging_none : {r : Bounds} → o ≡ 0 → b.bound ≤ r.bound → r.witness ≡ b.witness → Bounded ws aim part ms left r
       charging_none {r} z l e =
           record {
             rows = x.rows;
@@ -170,7 +171,7 @@ module _ {ws : List ℕ} {aim : Aim} {part : Part} {ms : List ℕ} {used : ℕ} 
 
         -- one witness more
         pub charging_more : {c : Bounds} {less : List ℕ} {r : Bounds} → Parted ws aim part → Noted b o c → Charged left c o less r
-            → Charging ws aim part ms used less r
+            → Charging ws aim part ms less r
         charging_more {c} {less} {r} p d g =
             record {
               rows = g.taken.rows ∙ x.rows;
@@ -181,12 +182,10 @@ module _ {ws : List ℕ} {aim : Aim} {part : Part} {ms : List ℕ} {used : ℕ} 
               witnessed = record { hits = either d.one_of };
             }
           where
-            either : (c.witness ≡ o) ⊎ (c.witness ≡ b.witness) → (r.witness ≡ 0 → ⊥)
-                → Hit (Meeting aim ms used) part.chosen part.limit r.witness
-            either (inl e) k =
-                subst (λ (m : ℕ). Hit (Meeting aim ms used) part.chosen part.limit m) (sym (g.same_witness ∙ e)) shown
-            either (inr e) k =
-                subst (λ (m : ℕ). Hit (Meeting aim ms used) part.chosen part.limit m) (sym (g.same_witness ∙ e))
-                (x.witnessed.hits (λ z. k (g.same_witness ∙ e ∙ z)))
+            either : (c.witness ≡ Some o) ⊎ (c.witness ≡ b.witness) → (w : ℕ) → r.witness ≡ Some w → Hit (Meeting aim ms) part.chosen part.limit w
+            either (inl e) w y =
+                let q : o ≡ w = cc (g.same_witness, e, y) in
+                subst (λ (m : ℕ). Hit (Meeting aim ms) part.chosen part.limit m) q shown
+            either (inr e) w y = x.witnessed.hits w (cc (g.same_witness, e, y))
 
 pub ruleset charging_laws = (shown_opens, charging_start, charging_done, charging_none, charging_room, charging_more)

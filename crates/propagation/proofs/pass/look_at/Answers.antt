@@ -4,8 +4,7 @@ use Rattle.propagation.specs.Laws.Looks.{look_met, look_several, look_quick, loo
 use Rattle.propagation.proofs.pass.look_at.Goals as goal
 
 pub returns-then-met-eq0 : goal.returns-then-met-eq0
-returns-then-met-eq0 c = look_quick c.difference.ensures c.difference-2.ensures c.wrapping_sub_u64.result c.if-quiet-ne0.true
-    c.if-met-eq0.true
+returns-then-met-eq0 c = look_quick c.difference.ensures c.difference-2.ensures _ c.if-quiet-ne0.true c.if-met-eq0.true
 
 pub returns-else-met-eq0 : goal.returns-else-met-eq0
 returns-else-met-eq0 c = look_met c.if-met-eq0.false
@@ -15,9 +14,6 @@ returns-then-left-eq0 c = look_conflict c.difference.ensures c.difference-2.ensu
 
 pub returns-then-left-single : goal.returns-then-left-single
 returns-then-left-single c = look_several c.difference.ensures c.difference-2.ensures _ c.if-quiet-ne0.false c.if-left-eq0.false
-
-pub returns-then-left-both-ne0 : goal.returns-then-left-both-ne0
-returns-then-left-both-ne0 c = look_several c.difference.ensures c.difference-2.ensures _ c.if-quiet-ne0.false c.if-left-eq0.false
 
 pub returns : goal.returns
 returns c = look_unit c.difference.ensures c.difference-2.ensures _ c.lowest.result c.if-quiet-ne0.false

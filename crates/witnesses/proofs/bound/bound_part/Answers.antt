@@ -4,14 +4,15 @@ use Rattle.witnesses.specs.Laws.Bounds.{shown_opens, charging_none, charging_law
 use Rattle.witnesses.proofs.bound.bound_part.Goals as goal
 
 pub returns-then-among-eq0 : goal.returns-then-among-eq0
-returns-then-among-eq0 c = charging_none c.loop-i.invariant (omega arith) (shown_opens c.witness_of-seen.ensures c.in-Open.is) c.if-among-eq0.true
+returns-then-among-eq0 c = charging_none c.loop-model.invariant c.loop-model-test.true (shown_opens c.open_witness.ensures c.in-Some.is)
+    c.if-among-eq0.true
     (omega arith) refl
 
-pub loop-i-init : goal.loop-i-init
-loop-i-init c = search (rules, charging_laws)
+pub loop-model-init : goal.loop-model-init
+loop-model-init c = search (rules, charging_laws)
 
 pub charge-b-requires : goal.charge-b-requires
 charge-b-requires c = search (rules, charging_laws)
 
-pub loop-i-preserved-in-Open : goal.loop-i-preserved-in-Open
-loop-i-preserved-in-Open c = search (rules, charging_laws)
+pub loop-model-preserved : goal.loop-model-preserved
+loop-model-preserved c = search (rules, charging_laws)

@@ -1,7 +1,6 @@
 -- `witnesses::question::against` meets its contract. Assumes nothing.
-use Rattle.std.proofs.Common.{refl}
 use Rattle.witnesses.specs.Laws.Questions.{against_said}
 use Rattle.witnesses.proofs.question.against.Goals as goal
 
 pub returns : goal.returns
-returns c = against_said c.intersection.ensures c.intersection-2.ensures refl c.assign.ensures
+returns c = against_said c.assign.ensures c.intersection.ensures c.intersection-2.ensures

@@ -1,6 +1,0 @@
--- `consequence::in_both` meets its contract. Assumes nothing.
-use Rattle.std.proofs.Common.{ap₂, ℕ}
-use Rattle.consequence.proofs.in_both.Goals as goal
-
-pub returns : goal.returns
-returns c = ap₂ (λ (y : ℕ) (k : ℕ). record { yes = y; no = k }) c.intersection.ensures c.intersection-2.ensures
