@@ -2,3 +2,4 @@ mod SeenLaws
 mod CastLaws
 pub mod Told
 mod RowLaws
+mod TableLaws

@@ -1,8 +1,10 @@
 -- What the C side sees of an answer, from the contract of the engine's call and the case that the answer is. Assumes nothing.
-use mathlib.Core.Path.{◌≡◌, refl, ap, ◌∙◌}
+use mathlib.Core.Path.{◌≡◌, refl, sym, ap, ◌∙◌}
+use Rattle.std.specs.Prelude.{Option, Some, None, unwrap_or, pos}
+use Rattle.log_form.specs.declared.Step.{Step}
 use Prim.Native.Nat.{ℕ}
 use Rattle.c_interface.specs.Promises.{Passed}
-use Rattle.c_interface.specs.Seen.{code, Outcome, done, refusal, returned, behind, Seen}
+use Rattle.c_interface.specs.Seen.{code, Outcome, done, refusal, returned, behind, Seen, as_step, shown_step}
 
 -- an outcome, in each of its cases
 module _ {B : Type 0} {o : Outcome B} where
@@ -26,3 +28,8 @@ module _ {A B : Type 0} {Call : A → Type 0} {seen : A → Outcome B} {answer r
 
     pub seen_refused : {number place r : ℕ} {before : B} → seen told ≡ refusal number place → r ≡ code number place → Seen Call answer seen before before r
     seen_refused e c = seen_passed (passed_refused (ap seen is ∙ e) c)
+
+-- a step, or zeros where there is none
+pub shown_or : (o : Option Step) {r : Step} → r ≡ unwrap_or o (as_step (pos 0) 0 0 0 0 0) → shown_step o ≡ r
+shown_or (Some s) e = sym e
+shown_or None e = sym e

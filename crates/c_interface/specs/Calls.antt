@@ -11,7 +11,7 @@ use Rattle.engine.specs.Calls.{posed, model_answer, ModelCall, consequence_answe
 use Rattle.engine.specs.Calls.{resumed_outcome, ResumeCall}
 use Rattle.engine.specs.Dimacs.{DimacsCall}
 use Rattle.c_interface.specs.Seen.{Seen, BookShown, seen_book, seen_costs, seen_imported, seen_model, seen_consequence, seen_step, LogShown, seen_log}
-use Rattle.c_interface.specs.declared.StepShown.{StepShown}
+use Rattle.log_form.specs.declared.Step.{Step}
 
 -- `why_read_book` of the bytes s.
 abbrev pub BookSeen : List ℕ → BookShown → BookShown → ℕ → Type 0
@@ -34,7 +34,7 @@ abbrev pub ConsequenceSeen : List ℕ → Moment → LiteralSet → LiteralSet �
 ConsequenceSeen s moment = Seen (ConsequenceCall s moment) (consequence_answer (posed moment s)) seen_consequence
 
 -- `why_next_step` from the known set of these two masks.
-abbrev pub StepSeen : List ℕ → Moment → ℕ → ℕ → StepShown → StepShown → ℕ → Type 0
+abbrev pub StepSeen : List ℕ → Moment → ℕ → ℕ → Step → Step → ℕ → Type 0
 StepSeen s moment on off = Seen (StepCall s moment on off) (step_answer on off (posed moment s)) seen_step
 
 -- `why_log`; `old` stands in the lent buffer at entry and `new` at exit.

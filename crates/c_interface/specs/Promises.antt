@@ -1,13 +1,13 @@
 -- What the inner functions say.
-use Rattle.std.specs.Prelude.{◌≡◌, ℕ}
-use Rattle.c_interface.specs.Seen.{Outcome, done, refusal, returned, behind}
-use Rattle.c_interface.specs.declared.StepShown.{StepShown}
-use Rattle.c_interface.specs.declared.StepOutcome.{StepOutcome}
+use Rattle.std.specs.Prelude.{◌≡◌, List, ℕ}
+use Rattle.records.specs.declared.Rule.{Rule}
+use Rattle.c_interface.specs.Seen.{Outcome, returned, behind, rules_yes, rules_no, rules_windows}
 
--- The outcome that the code's enum is.
-abbrev pub outcome_of : StepOutcome → Outcome StepShown
-outcome_of (StepOutcome.Done step) = done step
-outcome_of (StepOutcome.Refusal number place) = refusal number place
+-- What C sees of the rules.
+pub record RulesPassed (rs : List Rule) (yes no : List ℕ) (windows : List (List ℕ)) : Type 0 where
+  pub yes_are : yes ≡ rules_yes rs
+  pub no_are : no ≡ rules_no rs
+  pub windows_are : windows ≡ rules_windows rs
 
 -- What C sees of an outcome: what is returned, and what then stands behind the pointers.
 pub record Passed {B : Type 0} (o : Outcome B) (before after : B) (r : ℕ) : Type 0 where

@@ -1,20 +1,19 @@
 -- What the C side sees of an answer of the engine: the number that a function returns, and what then stands behind its pointers. One definition for all
 -- of them: an answer comes to an outcome, and the outcome settles both.
-use Rattle.std.specs.Prelude.{◌≡◌, List, [], ◌∷◌, map, ℕ, ◌+◌, ◌*◌, ◌-◌, ◌^◌, ◌/◌, ◌%◌, min, pos}
+use Rattle.std.specs.Prelude.{◌≡◌, List, [], ◌∷◌, map, ℕ, ◌+◌, ◌*◌, ◌-◌, ◌^◌, ◌/◌, ◌%◌, min, pos, length, Option, Some, None, Result, Ok, Err}
 use Rattle.literals.specs.Literal.{Literal}
 use Rattle.literals.specs.declared.LiteralSet.{LiteralSet}
 use Rattle.dates.specs.declared.Moment.{Moment}
 use Rattle.dates.specs.declared.Applies.{Applies}
 use Rattle.records.specs.declared.Book.{Book}
-use Rattle.records.specs.declared.RuleWindow.{RuleWindow}
-use Rattle.book.specs.declared.Reading.{Reading}
-use Rattle.book.specs.declared.Verdict.{Verdict}
-use Rattle.dimacs.specs.declared.Imported.{Imported}
-use Rattle.engine.specs.declared.ModelAnswer.{ModelAnswer}
-use Rattle.engine.specs.declared.ConsequenceAnswer.{ConsequenceAnswer}
-use Rattle.engine.specs.declared.StepAnswer.{StepAnswer}
-use Rattle.engine.specs.declared.LogAnswer.{LogAnswer}
-use Rattle.c_interface.specs.declared.StepShown.{StepShown}
+use Rattle.records.specs.Limits.{max_rules}
+use Rattle.records.specs.Refusals.{number_of}
+use Rattle.records.specs.declared.Rule.{Rule}
+use Rattle.records.specs.declared.refusal.Refusal.{Refusal}
+use Rattle.book.specs.Answer.{padded}
+use Rattle.log_form.specs.declared.Step.{Step}
+use Rattle.log_writer.specs.declared.Written.{Written}
+use Rattle.engine.specs.Calls.{ModelAnswer, ConsequenceAnswer, StepAnswer, LogAnswer}
 
 -- ---- a refusal as one number
 
@@ -83,7 +82,7 @@ abbrev pub as_book : ℕ → ℕ → ℕ → List ℕ → List ℕ → List (Lis
 as_book variables choices rules on off windows facts_on facts_off =
     record { variables = variables; choices = choices; rules = rules; on = on; off = off; windows = windows; facts_on = facts_on; facts_off = facts_off }
 
-abbrev pub as_step : Literal → ℕ → ℕ → ℕ → ℕ → ℕ → StepShown
+abbrev pub as_step : Literal → ℕ → ℕ → ℕ → ℕ → ℕ → Step
 as_step goal reasons_on reasons_off new_on new_off cost =
     record { goal = goal; reasons = as_literals reasons_on reasons_off; new = as_literals new_on new_off; cost = cost }
 
@@ -98,10 +97,10 @@ as_log size steps total = record { size = size; steps = steps; total = total }
 
 -- ---- each answer of the engine as an outcome
 
--- The reader's verdict, with what is shown of an accepted book.
-abbrev pub by_verdict : {B : Type 0} → B → Verdict → Outcome B
-by_verdict b Verdict.Accepted = done b
-by_verdict b (Verdict.Refused number place) = refusal number place
+-- What is shown of an answer, or its refusal's number and place.
+abbrev pub seen_as : {A B : Type 0} → (A → B) → Result A Refusal → Outcome B
+seen_as show (Ok a) = done (show a)
+seen_as show (Err r) = refusal (number_of r.kind) r.place
 
 -- When a rule applies: the fields of WN in their order, first day, end day, weekdays, first minute, end minute; zeros where it has none.
 unfoldable pub window_row : Applies → List ℕ
@@ -110,43 +109,48 @@ window_row (Applies.During w) =
     w.first_day.year ∷ w.first_day.month ∷ w.first_day.day ∷ w.end_day.year ∷ w.end_day.month ∷ w.end_day.day ∷ w.weekdays
     ∷ w.first_minute ∷ w.end_minute ∷ []
 
--- The same of what is kept.
-abbrev pub kept_row : RuleWindow → List ℕ
-kept_row w = window_row w.applies
+-- The masks of the rules that say yes, of those that say no, and the rows of their windows; zeros after the last rule.
+abbrev pub rules_yes : List Rule → List ℕ
+rules_yes rs = padded 0 max_rules (map (λ (r : Rule). r.literals.yes) rs)
+
+abbrev pub rules_no : List Rule → List ℕ
+rules_no rs = padded 0 max_rules (map (λ (r : Rule). r.literals.no) rs)
+
+abbrev pub rules_windows : List Rule → List (List ℕ)
+rules_windows rs = padded (window_row Applies.Always) max_rules (map (λ (r : Rule). window_row r.applies) rs)
 
 -- The book: every field of it.
 abbrev pub shown_book : Book → BookShown
-shown_book b = as_book b.variables b.choices b.rules b.yes b.no (map kept_row b.windows) b.facts_yes b.facts_no
+shown_book b =
+    as_book b.variables b.choices (length b.rules.items) (rules_yes b.rules.items) (rules_no b.rules.items) (rules_windows b.rules.items) b.facts.yes b.facts.no
 
-abbrev pub seen_book : Reading → Outcome BookShown
-seen_book r = by_verdict (shown_book r.book) r.verdict
+abbrev pub seen_book : Result Book Refusal → Outcome BookShown
+seen_book r = seen_as shown_book r
 
 -- The costs, a row of two for each choice that a book can have.
-abbrev pub seen_costs : List (List ℕ) → Reading → Outcome (List (List ℕ))
-seen_costs costs r = by_verdict costs r.verdict
+abbrev pub seen_costs : List (List ℕ) → Result Book Refusal → Outcome (List (List ℕ))
+seen_costs costs r = seen_as (λ b. costs) r
 
 -- The length of the book that was made of a text.
-abbrev pub seen_imported : Imported → Outcome ℕ
-seen_imported (Imported.Written size) = done size
-seen_imported (Imported.Refused number place) = refusal number place
+abbrev pub seen_imported : Result ℕ Refusal → Outcome ℕ
+seen_imported r = seen_as (λ size. size) r
 
 -- The mask of a model's yes.
 abbrev pub seen_model : ModelAnswer → Outcome ℕ
-seen_model (ModelAnswer.Model m) = done m
-seen_model (ModelAnswer.Refused number place) = refusal number place
+seen_model r = seen_as (λ m. m) r
 
 -- What is filled in, as two masks.
 abbrev pub seen_consequence : ConsequenceAnswer → Outcome LiteralSet
-seen_consequence (ConsequenceAnswer.Forced two) = done two
-seen_consequence (ConsequenceAnswer.Refused number place) = refusal number place
+seen_consequence r = seen_as (λ two. two) r
 
 -- A step: its goal, its reasons, its new literals, its cost. Where nothing is left all of them are 0, the goal too, which no literal is.
-abbrev pub seen_step : StepAnswer → Outcome StepShown
-seen_step (StepAnswer.Step goal reasons new cost) = done (record { goal = goal; reasons = reasons; new = new; cost = cost })
-seen_step StepAnswer.NothingLeft = done (as_step (pos 0) 0 0 0 0 0)
-seen_step (StepAnswer.Refused number place) = refusal number place
+abbrev pub shown_step : Option Step → Step
+shown_step (Some s) = s
+shown_step None = as_step (pos 0) 0 0 0 0 0
+
+abbrev pub seen_step : StepAnswer → Outcome Step
+seen_step r = seen_as shown_step r
 
 -- A log: its length, its number of steps and its total.
 abbrev pub seen_log : LogAnswer → Outcome LogShown
-seen_log (LogAnswer.Written size steps total) = done (as_log size steps total)
-seen_log (LogAnswer.Refused number place) = refusal number place
+seen_log r = seen_as (λ (w : Written). as_log w.size w.steps w.total) r

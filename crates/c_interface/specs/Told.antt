@@ -1,16 +1,15 @@
 -- What a C program can tell from what it sees, of any bytes and any moment: done from refused, a refusal's number and place, a step from nothing left.
 -- proofs/Told shows all of it.
-use Rattle.std.specs.Prelude.{◌≡◌, List, ℕ, ◌≤◌, pos, length}
+use Rattle.std.specs.Prelude.{◌≡◌, List, ℕ, ◌≤◌, pos, length, None, Ok}
 use Rattle.dates.specs.declared.Moment.{Moment}
 use Rattle.records.specs.Format.{read_book}
 use Rattle.book.specs.Answer.{book_answer, table_answer}
 use Rattle.dimacs.specs.Import.{imported, import_answer}
 use Rattle.engine.specs.Calls.{posed, model_answer, consequence_answer, step_answer, log_outcome, log_answer, resumed_outcome}
-use Rattle.engine.specs.declared.StepAnswer.TheVariants as StepAnswer
 use Rattle.c_interface.specs.Seen.{max_place, number_in, place_in, Outcome, done, refusal, returned}
 use Rattle.c_interface.specs.Seen.{seen_book, seen_costs, seen_imported, seen_model, seen_consequence, seen_step, seen_log}
 use Rattle.c_interface.specs.Calls.{StepSeen}
-use Rattle.c_interface.specs.declared.StepShown.{StepShown}
+use Rattle.log_form.specs.declared.Step.{Step}
 
 -- Of a call that was handed so many bytes: 0 is returned only where it is done, and of a refusal the number and the place are read off, the place where
 -- the bytes are no more than a place has room for.
@@ -35,5 +34,5 @@ pub record ResumeTold (s : List ℕ) : Type 0 where
 
 -- Where 0 is returned and the goal is 0, nothing is left: no step has the goal 0.
 pub record GoalTold (s : List ℕ) (moment : Moment) (known_on known_off : ℕ) : Type 0 where
-  pub nothing_left : {before after : StepShown} → StepSeen s moment known_on known_off before after 0 → after.goal ≡ pos 0
-      → step_answer known_on known_off (posed moment s) ≡ StepAnswer.NothingLeft
+  pub nothing_left : {before after : Step} → StepSeen s moment known_on known_off before after 0 → after.goal ≡ pos 0
+      → step_answer known_on known_off (posed moment s) ≡ Ok None

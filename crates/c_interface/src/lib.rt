@@ -3,30 +3,30 @@
 // length from C must be is said in host/why.h.
 #![tactic(auto)]
 
-ghost use Rattle.std.specs.Prelude.{◌≡◌, map};
-ghost use Rattle.c_interface.specs.Seen.{code, as_moment, window_row, kept_row, as_book, as_literals, as_step, as_log, seen_step, seen_log};
-ghost use Rattle.c_interface.specs.Promises.{outcome_of, Passed};
+ghost use Rattle.std.specs.Prelude.{◌≡◌, ◌≤◌, length};
+ghost use Rattle.records.specs.Limits.{max_rules};
+ghost use Rattle.records.specs.Refusals.{number_of};
+ghost use Rattle.c_interface.specs.Seen.{code, as_moment, window_row, as_book, as_literals, as_step, as_log, seen_log};
+ghost use Rattle.c_interface.specs.Promises.{RulesPassed, Passed};
 ghost use Rattle.c_interface.specs.Calls.{BookSeen, CostsSeen, DimacsSeen, ModelSeen, ConsequenceSeen, StepSeen, LogSeen, ResumeSeen};
 
-use book::{Book, Verdict};
+use book::Book;
 use dates::{Applies, Date, Moment};
-use dimacs::Imported;
-use engine::{ConsequenceAnswer, LogAnswer, ModelAnswer, StepAnswer};
 use literals::LiteralSet;
-use records::RuleWindow;
+use log_form::Step;
+use log_writer::Written;
+use records::Rule;
+use records::refusal::Refusal;
 
 // The largest place that a refusal has room for: 2 ^ 56 - 1.
 pub const MAX_PLACE: u64 = 72057594037927935;
 
 // A refusal as one number: its number in the lowest byte, its place above it.
-fn refusal(number: u8, place: usize) -> u64
-    ensures { result ≡ code number place }
+#[tactic(auto, unfolding(crate::specs::Seen::code))]
+fn refusal(refused: Refusal) -> u64
+    ensures { result ≡ code (number_of refused.kind) refused.place }
 {
-    let at = place as u64;
-    if MAX_PLACE < at {
-        return number as u64 + 256 * MAX_PLACE;
-    }
-    number as u64 + 256 * at
+    refused.kind.number() as u64 + 256 * (refused.place as u64).min(MAX_PLACE)
 }
 
 // The moment of a call, as C hands it over.
@@ -39,6 +39,7 @@ fn moment_of(year: u16, month: u8, day: u8, minute: u16) -> Moment
     }
 }
 
+#[tactic(auto, unfolding(crate::specs::Seen::window_row))]
 // When a rule applies, as nine numbers: the fields of its WN in their order, or zeros where it has none.
 fn window_row(applies: Applies) -> [u16; 9]
     ensures { result ≡ window_row applies }
@@ -63,19 +64,25 @@ fn window_row(applies: Applies) -> [u16; 9]
     }
 }
 
-// The windows of all rules, a row each.
-fn window_rows(windows: [RuleWindow; Book::MAX_RULES]) -> [[u16; 9]; Book::MAX_RULES]
-    ensures { result ≡ map kept_row windows }
+// The rules behind three pointers: the masks of their literals that say yes, of those that say no, and their windows, a row each. After the last rule
+// stand zeros.
+fn pass_rules(
+    rules: &[Rule],
+    yes: &mut [u64; Book::MAX_RULES],
+    no: &mut [u64; Book::MAX_RULES],
+    windows: &mut [[u16; 9]; Book::MAX_RULES],
+)
+    requires { length rules.now ≤ max_rules }
+    ensures { RulesPassed rules.now yes.new no.new windows.new }
 {
-    let mut rows = [[0u16; 9]; Book::MAX_RULES];
-    let mut i = 0;
-    while i < Book::MAX_RULES {
-        let window = windows[i];
-        let applies = window.applies;
-        rows[i] = window_row(applies);
-        i += 1;
+    *yes = [0; Book::MAX_RULES];
+    *no = [0; Book::MAX_RULES];
+    *windows = [[0; 9]; Book::MAX_RULES];
+    for (i, rule) in rules.iter().enumerate() {
+        yes[i] = rule.literals.yes;
+        no[i] = rule.literals.no;
+        windows[i] = window_row(rule.applies);
     }
-    rows
 }
 
 // The book reader: the counts, the rules with their windows, and the given facts.
@@ -98,23 +105,15 @@ pub extern "C" fn why_read_book(
         (as_book variables.new choices.new rules.new rules_yes.new rules_no.new
         windows.new facts_yes.new facts_no.new) result }
 {
-    let reading = engine::read_book(book);
-    let verdict = reading.verdict;
-    match verdict {
-        Verdict::Refused { number, place } => refusal(number, place),
-        Verdict::Accepted => {
-            let b = reading.book;
+    match engine::read_book(book) {
+        Err(refused) => refusal(refused),
+        Ok(b) => {
             *variables = b.variables as u64;
             *choices = b.choices as u64;
-            *rules = b.rules as u64;
-            let yes = b.yes;
-            *rules_yes = yes;
-            let no = b.no;
-            *rules_no = no;
-            let kept = b.windows;
-            *windows = window_rows(kept);
-            *facts_yes = b.facts_yes;
-            *facts_no = b.facts_no;
+            *rules = b.rules.len() as u64;
+            pass_rules(&b.rules, rules_yes, rules_no, windows);
+            *facts_yes = b.facts.yes;
+            *facts_no = b.facts.no;
             0
         }
     }
@@ -126,11 +125,12 @@ pub extern "C" fn why_read_book(
 pub extern "C" fn why_read_costs(book: &[u8], costs: &mut [[u16; 2]; Book::MAX_CHOICES]) -> u64
     ensures { CostsSeen book.now costs.old costs.new result }
 {
-    let verdict = engine::read_book(book).verdict;
-    match verdict {
-        Verdict::Refused { number, place } => refusal(number, place),
-        Verdict::Accepted => {
-            *costs = engine::read_costs(book);
+    let reading = engine::read_book(book);
+    match reading {
+        Err(refused) => refusal(refused),
+        Ok(b) => {
+            let table = b.costs;
+            *costs = table;
             0
         }
     }
@@ -143,8 +143,8 @@ pub extern "C" fn why_read_dimacs(text: &[u8], buffer: &mut [u8], size: &mut u64
     ensures { DimacsSeen text.now buffer.old buffer.new size.old size.new result }
 {
     match engine::read_dimacs(text, buffer) {
-        Imported::Refused { number, place } => refusal(number, place),
-        Imported::Written(made) => {
+        Err(refused) => refusal(refused),
+        Ok(made) => {
             *size = made as u64;
             0
         }
@@ -166,8 +166,8 @@ pub extern "C" fn why_model(
 {
     let moment = moment_of(year, month, day, minute);
     match engine::model(book, moment) {
-        ModelAnswer::Refused { number, place } => refusal(number, place),
-        ModelAnswer::Model(m) => {
+        Err(refused) => refusal(refused),
+        Ok(m) => {
             *model = m;
             0
         }
@@ -191,8 +191,8 @@ pub extern "C" fn why_consequence(
 {
     let moment = moment_of(year, month, day, minute);
     match engine::consequence(book, moment) {
-        ConsequenceAnswer::Refused { number, place } => refusal(number, place),
-        ConsequenceAnswer::Forced(forced) => {
+        Err(refused) => refusal(refused),
+        Ok(forced) => {
             *yes = forced.yes;
             *no = forced.no;
             0
@@ -200,47 +200,13 @@ pub extern "C" fn why_consequence(
     }
 }
 
-// A step as C sees it.
-#[derive(Clone, Copy)]
-pub struct StepShown {
-    pub goal: i8,
-    pub reasons: LiteralSet,
-    pub new: LiteralSet,
-    pub cost: u16,
-}
-
-// What an answer on the next step comes to for C.
-#[derive(Clone, Copy)]
-enum StepOutcome {
-    Done(StepShown),
-    Refusal { number: u8, place: usize },
-}
-
-// The outcome of an answer on the next step: where nothing is left, 0 for everything.
-fn step_outcome(answer: StepAnswer) -> StepOutcome
-    ensures { outcome_of result ≡ seen_step answer }
-{
-    match answer {
-        StepAnswer::Refused { number, place } => StepOutcome::Refusal { number, place },
-        StepAnswer::NothingLeft => StepOutcome::Done(StepShown {
-            goal: 0,
-            reasons: LiteralSet { yes: 0, no: 0 },
-            new: LiteralSet { yes: 0, no: 0 },
-            cost: 0,
-        }),
-        StepAnswer::Step {
-            goal,
-            reasons,
-            new,
-            cost,
-        } => StepOutcome::Done(StepShown {
-            goal,
-            reasons,
-            new,
-            cost,
-        }),
-    }
-}
+// What C sees where nothing is left: 0 for everything, for the goal too, which no literal is.
+const NOTHING_LEFT: Step = Step {
+    goal: 0,
+    reasons: LiteralSet::EMPTY,
+    new: LiteralSet::EMPTY,
+    cost: 0,
+};
 
 // The cheapest next step from a known set; where nothing is left, 0 for everything.
 // Ruled out: the new literals given as the reasons; a goal where nothing is left.
@@ -267,16 +233,15 @@ pub extern "C" fn why_next_step(
         cost.new) result }
 {
     let moment = moment_of(year, month, day, minute);
-    match step_outcome(engine::next_step(book, moment, known_yes, known_no)) {
-        StepOutcome::Refusal { number, place } => refusal(number, place),
-        StepOutcome::Done(step) => {
-            let reasons = step.reasons;
-            let new = step.new;
+    match engine::next_step(book, moment, known_yes, known_no) {
+        Err(refused) => refusal(refused),
+        Ok(next) => {
+            let step = next.unwrap_or(NOTHING_LEFT);
             *goal = step.goal as i64;
-            *reasons_yes = reasons.yes;
-            *reasons_no = reasons.no;
-            *new_yes = new.yes;
-            *new_no = new.no;
+            *reasons_yes = step.reasons.yes;
+            *reasons_no = step.reasons.no;
+            *new_yes = step.new.yes;
+            *new_no = step.new.no;
             *cost = step.cost as u64;
             0
         }
@@ -284,20 +249,21 @@ pub extern "C" fn why_next_step(
 }
 
 // What an answer on a log comes to for C: its length, its number of steps and its total behind the pointers, or the refusal.
-fn pass_log(answer: LogAnswer, size: &mut u64, steps: &mut u64, total: &mut u64) -> u64
+fn pass_log(
+    answer: Result<Written, Refusal>,
+    size: &mut u64,
+    steps: &mut u64,
+    total: &mut u64,
+) -> u64
     ensures { Passed (seen_log answer) (as_log size.old steps.old total.old)
         (as_log size.new steps.new total.new) result }
 {
     match answer {
-        LogAnswer::Refused { number, place } => refusal(number, place),
-        LogAnswer::Written {
-            size: length,
-            steps: count,
-            total: sum,
-        } => {
-            *size = length as u64;
-            *steps = count as u64;
-            *total = sum as u64;
+        Err(refused) => refusal(refused),
+        Ok(log) => {
+            *size = log.size as u64;
+            *steps = log.steps as u64;
+            *total = log.total as u64;
             0
         }
     }

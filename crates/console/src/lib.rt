@@ -2,9 +2,8 @@
 // opens stored files.
 #![tactic(auto)]
 
-use dimacs::Imported;
-use printing::Printed;
 use records::Book;
+use records::refusal::Refusal;
 use std::fs;
 use std::fs::File;
 
@@ -22,11 +21,8 @@ const MAX_LINE: usize = 36;
 // The text for an input, the six bytes of a moment and then a book. It always fits: the buffer has room for the longest.
 pub fn show(input: &[u8]) {
     let mut text = [0u8; printing::MAX_TEXT];
-    match printing::print(input, &mut text) {
-        Printed::Text(size) => {
-            io::write_all(STDOUT, &text[..size]);
-        }
-        Printed::Short => {}
+    if let Some(size) = printing::print(input, &mut text) {
+        io::write_all(STDOUT, &text[..size]);
     }
 }
 
@@ -41,17 +37,15 @@ pub fn show_file(fd: i32) {
 // The same for an open file that has a book alone: the six bytes of a moment are put before what is read, 4,096 bytes at most in all.
 pub fn show_book(moment: [u8; printing::MOMENT_SIZE], fd: i32) {
     let mut space = io::buffer();
-    for i in 0..printing::MOMENT_SIZE {
-        space[i] = moment[i];
-    }
+    space[..printing::MOMENT_SIZE].copy_from_slice(&moment);
     let size = io::read_full(fd, &mut space[printing::MOMENT_SIZE..]);
     show(&space[..printing::MOMENT_SIZE + size]);
 }
 
 // The line of a refusal.
-fn show_refusal(number: u8, place: usize) {
+fn show_refusal(refused: Refusal) {
     let mut line = [0u8; MAX_LINE];
-    let size = printing::put_refusal(&mut line, number, place);
+    let size = printing::put_refusal(&mut line, refused);
     io::write_all(STDOUT, &line[..size]);
 }
 
@@ -59,10 +53,10 @@ fn show_refusal(number: u8, place: usize) {
 pub fn convert(text: &[u8]) {
     let mut book = [0u8; Book::MAX_WITHOUT_FACTS];
     match engine::read_dimacs(text, &mut book) {
-        Imported::Written(size) => {
+        Ok(size) => {
             io::write_all(STDOUT, &book[..size]);
         }
-        Imported::Refused { number, place } => show_refusal(number, place),
+        Err(refused) => show_refusal(refused),
     }
 }
 

@@ -19,10 +19,11 @@ use Rattle.consequence.specs.Meaning.{models, has_model}
 use Rattle.consequence.specs.Algorithm2.{ModelFilling}
 use Rattle.consequence.specs.Laws.Problems.{no_filling}
 use Rattle.consequence.proofs.SameFillings.{same_truth}
+use Rattle.std.specs.Prelude.{Ok}
+use Rattle.records.specs.Refusals.{refuses}
 use Rattle.engine.specs.Calls.{with_model, first_model, model_answer}
 use Rattle.engine.specs.FirstModel.{AnswersFirst, EqualModels, SameObeyed}
 use Rattle.engine.specs.SameScreens.{Reordered, BothRead}
-use Rattle.engine.specs.declared.ModelAnswer.{ModelAnswer}
 use Rattle.engine.proofs.NineLaws.{after_nine}
 use Rattle.engine.proofs.PosedLaws.{posed_book, posed_impossible}
 
@@ -51,7 +52,7 @@ unfolding model_answer with_model
 answer_first (refused number place) = refl
 answer_first (value p end) = go (has_model p) refl
   where
-    go : (h : Bool) → has_model p ≡ h → AnswersFirst (value p end) (cond h (ModelAnswer.Model (first_model p)) (ModelAnswer.Refused 9 0))
+    go : (h : Bool) → has_model p ≡ h → AnswersFirst (value p end) (cond h (Ok (first_model p)) (refuses 9 0))
     go true e = first_model_lem p e
     go false e = no_filling p e
 
@@ -84,7 +85,7 @@ module _ {moment : Moment} where
   unfolding model_answer with_model
   obeyed_answers {b} {c} x end other =
       after_nine _ _ (same_truth _ _ (has_there x) (has_there (obeyed_back x))) _ _ _
-      (λ e. ap ModelAnswer.Model (is_first_model (problem_of moment c) (first_there x (first_model_lem (problem_of moment b) e))))
+      (λ e. ap Ok (is_first_model (problem_of moment c) (first_there x (first_model_lem (problem_of moment b) e))))
 
   -- books of which it is known in another way that the same fillings obey their rules in force
   module _ {related : OrderBook → OrderBook → Type 0} (obeyed : (b c : OrderBook) → related b c → SameObeyed moment b c) where

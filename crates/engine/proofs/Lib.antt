@@ -3,11 +3,12 @@ pub mod FirstModel
 pub mod PosedLaws
 pub mod ProblemLaws
 mod AnswerLaws
-mod StepLaws
+pub mod StepLaws
 pub mod FewerReasons
 pub mod DimacsLaws
+pub mod Numbers
 pub mod LogLaws
 pub mod SameScreens
 pub mod Moments
-mod ResumeLaws
+pub mod ResumeLaws
 pub mod Restarts

@@ -8,6 +8,10 @@ use Prim.Native.Nat.{ℕ}
 use native.Mathlib.Omega.{arith}
 use Rattle.dates.specs.declared.Moment.{Moment}
 use Rattle.records.specs.Format.{Read, value, refused}
+use Rattle.std.specs.Prelude.{Result}
+use Rattle.records.specs.Refusals.{kind_of, refusal_of, refuses}
+use Rattle.records.specs.declared.refusal.Refusal.{Refusal}
+use Rattle.records.proofs.RefusalLaws.{one_number}
 use Rattle.problem.specs.Problem.{Problem}
 use Rattle.consequence.specs.Meaning.{has_model}
 use Rattle.consequence.specs.Demand2.{NoFilling}
@@ -24,14 +28,14 @@ none_has p n = go (has_model p) refl
     go false e = refl
 
 -- `refuse` tells its numbers apart, and no answer on a problem is a refusal with 9
-module _ {A : Type 0} (answer : Problem → A) (refuse : ℕ → ℕ → A) (number_of_lem : (n m p q : ℕ) → refuse n p ≡ refuse m q → n ≡ m)
+module _ {A : Type 0} (answer : Problem → A) (refuse : ℕ → ℕ → A) (number_of_lem : (n p q : ℕ) → refuse n p ≡ refuse 9 q → n ≡ 9)
     (other : (p : Problem) (place : ℕ) → answer p ≡ refuse 9 place → ⊥) where
   nine_then : (due : Type 0) (moment : Moment) (s : List ℕ) (m : Read Problem) → posed moment s ≡ m → NineExactly refuse due m (with_model answer refuse m)
   unfolding with_model
   nine_then due moment s (refused number place) e =
       record {
         nine_none =
-            λ at d. let k : number ≡ 9 = number_of_lem _ _ _ _ d in ⊎_elim (λ n. omega (arith, k, n.0, n.1)) (λ n. omega (arith, k, n))
+            λ at d. let k : number ≡ 9 = number_of_lem _ _ _ d in ⊎_elim (λ n. omega (arith, k, n.0, n.1)) (λ n. omega (arith, k, n))
             (posed_numbers moment s e);
         none_nine = λ u n. absurd n;
       }
@@ -51,3 +55,11 @@ after_nine h k same nine f g e = go h e ∙ ap (λ (b : Bool). cond b g nine) sa
     go : (b : Bool) → (b ≡ true → f ≡ g) → cond b f nine ≡ cond b g nine
     go true e = e refl
     go false e = refl
+
+-- equal refusals name equal checks
+pub kinds_same : {A : Type 0} (n p m q : ℕ) → ◌≡◌ {A = Result A Refusal} (refuses n p) (refuses m q) → kind_of n ≡ kind_of m
+kinds_same n p m q e = let named : refusal_of n p ≡ refusal_of m q = cc in ap (λ (r : Refusal). r.kind) named
+
+-- a refusal with the check of 9 has the number 9
+pub nine_number : {A : Type 0} (n p q : ℕ) → ◌≡◌ {A = Result A Refusal} (refuses n p) (refuses 9 q) → n ≡ 9
+nine_number n p q e = one_number (kinds_same n p 9 q e) refl (omega arith)

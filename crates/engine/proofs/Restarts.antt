@@ -14,16 +14,20 @@ use Rattle.records.specs.Limits.{max_log}
 use Rattle.log_form.specs.Format.{log_bytes}
 use Rattle.log_form.specs.Restarts.{written_up_to, is_begun, Begun}
 use Rattle.log_form.specs.Laws.Restarts.{begun_is, begun_not}
+use Rattle.std.specs.Prelude.{Err}
+use Rattle.records.specs.Refusals.{number_of, refuses}
+use Rattle.records.specs.declared.refusal.Refusal.{Refusal}
+use Rattle.engine.specs.Calls.{LogAnswer, log_written}
 use Rattle.engine.specs.Calls.{posed, LogOutcome, logged, refused_with, log_outcome, log_answer, buffer_after, LoggedAs, LogCall}
 use Rattle.engine.specs.Calls.{resumed, resumed_outcome, ResumeCall}
 use Rattle.engine.specs.Restarts.{CarriesOn}
-use Rattle.engine.specs.declared.LogAnswer.{LogAnswer}
+use Rattle.engine.proofs.NineLaws.{kinds_same}
 use Rattle.engine.proofs.LogLaws.{log_call, log_said}
 use Rattle.engine.proofs.ResumeLaws.{Wrote, wrote, long_enough, any_room, short_eight}
 
 -- ---- carried on
 
-module _ {s : List ℕ} {moment : Moment} {before after : List ℕ} {size steps total : ℕ} (c : LogCall s moment before after (LogAnswer.Written size steps total)) where
+module _ {s : List ℕ} {moment : Moment} {before after : List ℕ} {size steps total : ℕ} (c : LogCall s moment before after (log_written size steps total)) where
   abbrev unbroken : Wrote (log_outcome (length before) (posed moment s)) before after size steps total
   unbroken = wrote (log_outcome (length before) (posed moment s)) c.said
 
@@ -36,13 +40,13 @@ module _ {s : List ℕ} {moment : Moment} {before after : List ℕ} {size steps 
     unfolding resumed_outcome resumed
     came_to = rw unbroken.bytes (rw (same_log room, resumed) at d.said)
 
-    goes_on : Begun n found (take size after) → (r ≡ LogAnswer.Written size steps total) × (left ≡ take size after ++ drop size found)
+    goes_on : Begun n found (take size after) → (r ≡ log_written size steps total) × (left ≡ take size after ++ drop size found)
     unfolding buffer_after
     goes_on b =
         let l = rw (begun_is n found (take size after) b) at came_to in
         (l.answered ∙ unbroken.answer, l.buffer ∙ ap₂ (λ (xs : List ℕ) (k : ℕ). xs ++ drop k found) (sym unbroken.bytes) (sym unbroken.sized))
 
-    gives_fifteen : (Begun n found (take size after) → ⊥) → (r ≡ LogAnswer.Refused 15 0) × (left ≡ found)
+    gives_fifteen : (Begun n found (take size after) → ⊥) → (r ≡ refuses 15 0) × (left ≡ found)
     unfolding log_answer buffer_after
     gives_fifteen f = let l = rw (begun_not n found (take size after) f) at came_to in (l.answered, l.buffer)
 
@@ -69,13 +73,13 @@ module _ {s : List ℕ} {moment : Moment} {before after : List ℕ} {size steps 
         ap (λ j. drop j (take k after ++ junk)) e ∙ drop-append-add (take k after) junk (size - k)
 
   carried : (n : ℕ) (junk : List ℕ) {left : List ℕ} {r : LogAnswer} → n ≤ size → max_log ≤ length (take n after ++ junk)
-      → ResumeCall s moment n (take n after ++ junk) left r → (r ≡ LogAnswer.Written size steps total) × (left ≡ take size after ++ drop (size - n) junk)
+      → ResumeCall s moment n (take n after ++ junk) left r → (r ≡ log_written size steps total) × (left ≡ take size after ++ drop (size - n) junk)
   carried n junk h room d =
       let g = goes_on room d (begins n n junk (omega arith) h) in
       (g.0, g.1 ∙ ap (λ l. take size after ++ l) (beyond n n junk (omega arith) h))
 
   broken_off : (k : ℕ) {n : ℕ} {left : List ℕ} {r : LogAnswer} → length after ≡ length before → k ≤ size → n ≤ k
-      → ResumeCall s moment n (written_up_to k (take size after) before) left r → (r ≡ LogAnswer.Written size steps total) × (left ≡ after)
+      → ResumeCall s moment n (written_up_to k (take size after) before) left r → (r ≡ log_written size steps total) × (left ≡ after)
   unfolding written_up_to
   broken_off k {n} same h l d =
       let e = rw (take-take k size after h) at d in
@@ -89,44 +93,44 @@ module _ {s : List ℕ} {moment : Moment} {before after : List ℕ} {size steps 
             ∙ ap (λ xs. xs ++ drop size before) unbroken.bytes ∙ sym unbroken.buffer,
       )
 
-  only_fifteen : {n place : ℕ} {found left : List ℕ} → ResumeCall s moment n found left (LogAnswer.Refused 15 place) → Begun n found (take size after) → ⊥
+  only_fifteen : {n place : ℕ} {found left : List ℕ} → ResumeCall s moment n found left (refuses 15 place) → Begun n found (take size after) → ⊥
   unfolding resumed_outcome resumed log_answer
   only_fifteen {found = found} d b = go (ltb (length found) max_log) refl
     where
       go : (t : Bool) → ltb (length found) max_log ≡ t → ⊥
       go true h =
           let l = rw (short_eight _ _ (posed moment s) unbroken.came h, resumed) at d.said in
-          let e = l.answered in let z : ◌≡◌ {A = ℕ} 15 8 = cc in omega arith
+          omega (arith, ap number_of (kinds_same 15 _ 8 0 l.answered))
       go false h = let e = (goes_on (ltb-false _ _ h) d b).0 in let z : ◌≡◌ {A = ℕ} 0 1 = cc in omega arith
 
 -- ---- the claims
 
 module _ {s : List ℕ} {moment : Moment} {found left : List ℕ} where
   -- what was carried on and written
-  as_unbroken : {n size steps total : ℕ} → ResumeCall s moment n found left (LogAnswer.Written size steps total)
-      → LogCall s moment found left (LogAnswer.Written size steps total)
+  as_unbroken : {n size steps total : ℕ} → ResumeCall s moment n found left (log_written size steps total)
+      → LogCall s moment found left (log_written size steps total)
   unfolding resumed_outcome resumed log_answer
   as_unbroken {n} {size} {steps} {total} d = log_said (go (log_outcome (length found) (posed moment s)) d.said)
     where
-      go : (o : LogOutcome) → LoggedAs (resumed n found o) found left (LogAnswer.Written size steps total)
-          → LoggedAs o found left (LogAnswer.Written size steps total)
+      go : (o : LogOutcome) → LoggedAs (resumed n found o) found left (log_written size steps total)
+          → LoggedAs o found left (log_written size steps total)
       go (refused_with k p) l = l
       go (logged g) l = at (is_begun n found (log_bytes g)) l
         where
-          at : (b : Bool) → LoggedAs (cond b (logged g) (refused_with 15 0)) found left (LogAnswer.Written size steps total)
-              → LoggedAs (logged g) found left (LogAnswer.Written size steps total)
+          at : (b : Bool) → LoggedAs (cond b (logged g) (refused_with 15 0)) found left (log_written size steps total)
+              → LoggedAs (logged g) found left (log_written size steps total)
           at true l = l
           at false l = let e = l.answered in let z : ◌≡◌ {A = ℕ} 0 1 = cc in absurd (omega arith)
 
   -- a refusal that comes before 15
-  refused_alike : {n number place : ℕ} {before after : List ℕ} {r : LogAnswer} → LogCall s moment before after (LogAnswer.Refused number place)
-      → length found ≡ length before → ResumeCall s moment n found left r → (r ≡ LogAnswer.Refused number place) × (left ≡ found)
+  refused_alike : {n : ℕ} {refusal : Refusal} {before after : List ℕ} {r : LogAnswer} → LogCall s moment before after (Err refusal)
+      → length found ≡ length before → ResumeCall s moment n found left r → (r ≡ Err refusal) × (left ≡ found)
   unfolding resumed_outcome resumed log_answer buffer_after
-  refused_alike {n} {number} {place} {before} {after} {r} c same d =
+  refused_alike {n} {refusal} {before} {after} {r} c same d =
       go (log_outcome (length before) (posed moment s)) c.said (rw same at d.said)
     where
-      go : (o : LogOutcome) → LoggedAs o before after (LogAnswer.Refused number place) → LoggedAs (resumed n found o) found left r
-          → (r ≡ LogAnswer.Refused number place) × (left ≡ found)
+      go : (o : LogOutcome) → LoggedAs o before after (Err refusal) → LoggedAs (resumed n found o) found left r
+          → (r ≡ Err refusal) × (left ≡ found)
       go (logged l) w x = let e = w.answered in let z : ◌≡◌ {A = ℕ} 0 1 = cc in absurd (omega arith)
       go (refused_with k p) w x = (x.answered ∙ sym w.answered, x.buffer)
 

@@ -16,29 +16,36 @@ use Rattle.problem.specs.Problem.{Problem}
 use Rattle.log_form.specs.Format.{Log, log_bytes}
 use Rattle.log_form.specs.Restarts.{is_begun}
 use Rattle.log_writer.specs.Meaning.{run_for, log_of}
+use Rattle.log_writer.specs.declared.Written.{Written}
+use Rattle.std.specs.Prelude.{Ok, Err}
+use Rattle.records.specs.declared.refusal.Refusal.{Refusal}
+use Rattle.engine.specs.Calls.{LogAnswer, log_written}
 use Rattle.engine.specs.Calls.{posed, with_model, LogOutcome, logged, refused_with, log_outcome, log_answer, buffer_after, LoggedAs, LogCall}
 use Rattle.engine.specs.Calls.{resumed, resumed_outcome, ResumeCall}
 use Rattle.engine.specs.Promises.{PutLog}
-use Rattle.engine.specs.declared.LogAnswer.{LogAnswer}
 use Rattle.engine.proofs.LogLaws.{put_as, logged_refused, resume_call}
 
 -- ---- what was written, from the answer
+
+-- equal answers are of equal logs
+pub same_written : {x y : Written} → ◌≡◌ {A = LogAnswer} (Ok x) (Ok y) → x ≡ y
+same_written e = cc
 
 pub record Wrote (o : LogOutcome) (before after : List ℕ) (size steps total : ℕ) : Type 0 where
   pub log : Log
   pub came : o ≡ logged log
   pub sized : size ≡ length (log_bytes log)
-  pub answer : log_answer (logged log) ≡ LogAnswer.Written size steps total
+  pub answer : log_answer (logged log) ≡ log_written size steps total
   pub bytes : take size after ≡ log_bytes log
   pub buffer : after ≡ log_bytes log ++ drop size before
 
-pub wrote : (o : LogOutcome) {before after : List ℕ} {size steps total : ℕ} → LoggedAs o before after (LogAnswer.Written size steps total)
+pub wrote : (o : LogOutcome) {before after : List ℕ} {size steps total : ℕ} → LoggedAs o before after (log_written size steps total)
     → Wrote o before after size steps total
 unfolding log_answer buffer_after
 wrote (refused_with n p) w = let e = w.answered in let z : ◌≡◌ {A = ℕ} 0 1 = cc in absurd (omega arith)
 wrote (logged l) {before} {after} {size} {steps} {total} w =
-    let e : LogAnswer.Written size steps total ≡ LogAnswer.Written (length (log_bytes l)) l.steps l.total = w.answered in
-    let sized : size ≡ length (log_bytes l) = cc in
+    let e : log_written size steps total ≡ log_written (length (log_bytes l)) l.steps l.total = w.answered in
+    let sized : size ≡ length (log_bytes l) = ap (λ (x : Written). x.size) (same_written e) in
     record {
       log = l;
       came = refl;
@@ -89,29 +96,30 @@ module _ {moment : Moment} {s : List ℕ} {n : ℕ} {before : List ℕ} where
 
   -- the call on an array that is as long as the longest log
   module _ {blank made : List ℕ} {a : LogAnswer} (c : LogCall s moment blank made a) (enough : max_log ≤ length blank) (room : max_log ≤ length before) where
-    pub resume_refused : {number place : ℕ} → a ≡ LogAnswer.Refused number place → ResumeCall s moment n before before (LogAnswer.Refused number place)
+    pub resume_refused : {refusal : Refusal} → a ≡ Err refusal → ResumeCall s moment n before before (Err refusal)
     unfolding resumed_outcome resumed log_answer
-    resume_refused {number} {place} e =
+    resume_refused {refusal} e =
         resume_call (rw (any_room (posed moment s) room enough) (go (log_outcome (length blank) (posed moment s)) (rw e at c.said.answered)))
       where
-        go : (o : LogOutcome) → LogAnswer.Refused number place ≡ log_answer o → LoggedAs (resumed n before o) before before (LogAnswer.Refused number place)
+        go : (o : LogOutcome) → ◌≡◌ {A = LogAnswer} (Err refusal) (log_answer o) → LoggedAs (resumed n before o) before before (Err refusal)
         go (logged l) d = let z : ◌≡◌ {A = ℕ} 0 1 = cc in absurd (omega arith)
         go (refused_with k p) d = rw d (logged_refused k p before)
 
-    pub resume_written : {size steps total : ℕ} {after : List ℕ} {r : LogAnswer} → a ≡ LogAnswer.Written size steps total
-        → PutLog (take size made) steps total n before after r → ResumeCall s moment n before after r
+    pub resume_written : {size steps total : ℕ} {after : List ℕ} {r : LogAnswer} → a ≡ log_written size steps total
+        → PutLog (take size made) (record { size = size; steps = steps; total = total }) n before after r → ResumeCall s moment n before after r
     unfolding resumed_outcome resumed log_answer
     resume_written {size} {steps} {total} e p =
         let w = wrote (log_outcome (length blank) (posed moment s)) (rw e at c.said) in
-        let same : LogAnswer.Written (length (log_bytes w.log)) w.log.steps w.log.total ≡ LogAnswer.Written size steps total = w.answer in
-        let steps_same : w.log.steps ≡ steps = cc in
-        let total_same : w.log.total ≡ total = cc in
+        let same : log_written (length (log_bytes w.log)) w.log.steps w.log.total ≡ log_written size steps total = w.answer in
+        let sized : length (log_bytes w.log) ≡ size = ap (λ (x : Written). x.size) (same_written same) in
+        let steps_same : w.log.steps ≡ steps = ap (λ (x : Written). x.steps) (same_written same) in
+        let total_same : w.log.total ≡ total = ap (λ (x : Written). x.total) (same_written same) in
         resume_call (rw (any_room (posed moment s) room enough ∙ w.came, resumed)
-        (put_as (is_begun n before (log_bytes w.log)) w.log (p.answered ∙ rw (w.bytes, steps_same, total_same) refl) (p.buffer ∙ rw w.bytes refl)))
+        (put_as (is_begun n before (log_bytes w.log)) w.log (p.answered ∙ rw (w.bytes, sized, steps_same, total_same) refl) (p.buffer ∙ rw w.bytes refl)))
 
 -- what was written lies within the array
 module _ {moment : Moment} {s blank made : List ℕ} {a : LogAnswer} {size steps total : ℕ} (c : LogCall s moment blank made a)
-    (e : a ≡ LogAnswer.Written size steps total) where
+    (e : a ≡ log_written size steps total) where
   pub made_within : size ≤ length made
   made_within =
       let w = wrote (log_outcome (length blank) (posed moment s)) (rw e at c.said) in

@@ -30,14 +30,13 @@ use Rattle.step.specs.Meaning.{question_of, Step, step_of}
 use Rattle.log_form.specs.Format.{Log, log_bytes}
 use Rattle.log_writer.specs.Meaning.{run_for, log_of}
 use Rattle.log_writer.specs.Laws.SameFillings.{same_next, same_run}
+use Rattle.std.specs.Prelude.{Ok}
+use Rattle.records.specs.Refusals.{refuses}
+use Rattle.engine.specs.Calls.{ModelAnswer, ConsequenceAnswer, StepAnswer, LogAnswer}
 use Rattle.engine.specs.Calls.{posed, with_model, first_model, model_answer, ModelCall, consequence_answer, ConsequenceCall, between}
 use Rattle.engine.specs.Calls.{step_says, step_for, step_answer, StepCall, LogOutcome, logged, refused_with, log_outcome, log_answer, buffer_after, LoggedAs}
 use Rattle.engine.specs.Calls.{LogCall}
 use Rattle.engine.specs.SameScreens.{SameScreens, Reordered, Retyped, BothNine, EqualLogs, SameLogs, choices_in, SameChosen, SameModels, SameAnswers}
-use Rattle.engine.specs.declared.ModelAnswer.{ModelAnswer}
-use Rattle.engine.specs.declared.ConsequenceAnswer.{ConsequenceAnswer}
-use Rattle.engine.specs.declared.StepAnswer.{StepAnswer}
-use Rattle.engine.specs.declared.LogAnswer.{LogAnswer}
 use Rattle.engine.proofs.NineLaws.{none_has, after_nine}
 use Rattle.engine.proofs.FirstModel.{first_model_lem}
 use Rattle.engine.proofs.PosedLaws.{posed_book, posed_proper}
@@ -60,14 +59,14 @@ module _ {p q : Problem} (w : ProperProblem p) (z : ProperProblem q) (x : SameOv
   unfolding step_for
   step_same known some =
       go (between (given p) known (consequence_of p)) refl
-      ∙ ap (λ (b : Bool). cond b (step_says (step_of (question_of q known))) (StepAnswer.Refused 10 0)) lies_same
+      ∙ ap (λ (b : Bool). cond b (step_says (step_of (question_of q known))) (refuses 10 0)) lies_same
     where
       lies_same : between (given p) known (consequence_of p) ≡ between (given q) known (consequence_of q)
       lies_same = ap₂ (λ (g : LiteralSet) (c : LiteralSet). between g known c) (given_same w z x) (same_consequence w z x)
 
       go : (b : Bool) → between (given p) known (consequence_of p) ≡ b
-          → cond b (step_says (step_of (question_of p known))) (StepAnswer.Refused 10 0)
-          ≡ cond b (step_says (step_of (question_of q known))) (StepAnswer.Refused 10 0)
+          → cond b (step_says (step_of (question_of p known))) (refuses 10 0)
+          ≡ cond b (step_says (step_of (question_of q known))) (refuses 10 0)
       go true e = ap step_says (same_next w z x known (sound_between w some known e) (sound_between z (sym has_same ∙ some) known (sym lies_same ∙ e)))
       go false e = refl
 
@@ -110,20 +109,20 @@ module _ (moment : Moment) (s : List ℕ) {p : Problem} {end : ℕ} (e : posed m
 
   -- and with one that is short: 8
   gives_eight : {before after : List ℕ} {r : LogAnswer} → LogCall s moment before after r → length before < max_log
-      → (r ≡ LogAnswer.Refused 8 0) × (after ≡ before)
+      → (r ≡ refuses 8 0) × (after ≡ before)
   unfolding log_outcome log_answer buffer_after
   gives_eight {before} c l = let k = rw (e, lt-ltb (length before) max_log l, log_outcome) at c.said in (k.answered, k.buffer)
 
 -- one log into two buffers
 module _ {before after other_before other_after : List ℕ} {r o : LogAnswer} where
   one_log : (p : Problem) → LoggedAs (log_or_nine p) before after r → LoggedAs (log_or_nine p) other_before other_after o
-      → EqualLogs before after r other_before other_after o ⊎ BothNine LogAnswer.Refused r o
+      → EqualLogs before after r other_before other_after o ⊎ BothNine refuses r o
   unfolding log_or_nine log_answer buffer_after
   one_log p = go (has_model p) (log_of (run_for p))
     where
       go : (h : Bool) (l : Log) → LoggedAs (cond h (logged l) (refused_with 9 0)) before after r
           → LoggedAs (cond h (logged l) (refused_with 9 0)) other_before other_after o
-          → EqualLogs before after r other_before other_after o ⊎ BothNine LogAnswer.Refused r o
+          → EqualLogs before after r other_before other_after o ⊎ BothNine refuses r o
       go true l c d =
           inl (record {
             bytes = log_bytes l;
@@ -172,14 +171,14 @@ module _ {moment : Moment} {s t : List ℕ} (x : Retyped moment s t) where
   unfolding consequence_answer
   consequence_same c d =
       c.said
-      ∙ answers_same (λ p. ConsequenceAnswer.Forced (consequence_of p)) ConsequenceAnswer.Refused
-      (λ some. ap ConsequenceAnswer.Forced (same_consequence w z alike)) ∙ sym d.said
+      ∙ answers_same (λ p. Ok (consequence_of p)) refuses
+      (λ some. ap Ok (same_consequence w z alike)) ∙ sym d.said
 
   next_same : {on off : ℕ} {r o : StepAnswer} → StepCall s moment on off r → StepCall t moment on off o → r ≡ o
   unfolding step_answer
   next_same {on} {off} c d =
       let known : LiteralSet = record { yes = on; no = off } in
-      c.said ∙ answers_same (step_for known) StepAnswer.Refused (λ some. step_same w z alike known some) ∙ sym d.said
+      c.said ∙ answers_same (step_for known) refuses (λ some. step_same w z alike known some) ∙ sym d.said
 
   -- ---- the log
 
@@ -215,7 +214,7 @@ module _ {moment : Moment} {s t : List ℕ} (x : Retyped moment s t) where
       (λ l. omega (arith, bit_inter f (full k) v, bit_inter g (full k) v, same v l))
       (λ l. omega (arith, bit_inter f (full k) v, bit_inter g (full k) v, bit_full_high k v (omega arith))))
 
-  both_models : {r o : ModelAnswer} → ModelCall s moment r → ModelCall t moment o → SameChosen (choices_in (posed moment s)) r o ⊎ BothNine ModelAnswer.Refused
+  both_models : {r o : ModelAnswer} → ModelCall s moment r → ModelCall t moment o → SameChosen (choices_in (posed moment s)) r o ⊎ BothNine refuses
       r o
   unfolding model_answer with_model
   both_models {r} {o} c d =
@@ -223,9 +222,9 @@ module _ {moment : Moment} {s t : List ℕ} (x : Retyped moment s t) where
       (rw (there, with_model, ← (has_same w z alike)) at d.said))
     where
       go : (h : Bool) → has_model one ≡ h
-          → r ≡ cond h (ModelAnswer.Model (first_model one)) (ModelAnswer.Refused 9 0)
-          → o ≡ cond h (ModelAnswer.Model (first_model other)) (ModelAnswer.Refused 9 0)
-          → SameChosen one.choices r o ⊎ BothNine ModelAnswer.Refused r o
+          → r ≡ cond h (Ok (first_model one)) (refuses 9 0)
+          → o ≡ cond h (Ok (first_model other)) (refuses 9 0)
+          → SameChosen one.choices r o ⊎ BothNine refuses r o
       go true e a b =
           inl (record {
             filling = first_model one;

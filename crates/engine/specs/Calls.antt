@@ -1,12 +1,14 @@
 -- What the public calls mean, for any bytes and any moment: the answer of each, by equation, and the demands in the words of document 01, of the rules in
 -- force (document 02, E7). The contracts in src/lib.rt unfold to what stands here. Document 01's number and values are given for each case of an answer.
-use Rattle.std.specs.Prelude.{◌≡◌, Bool, true, cond, ◌&&◌, List, ◌++◌, ℕ, ◌+◌, ◌^◌, ◌≤◌, ◌<◌, ltb, length, take, drop}
+use Rattle.std.specs.Prelude.{◌≡◌, Bool, true, cond, ◌&&◌, List, ◌++◌, ℕ, ◌+◌, ◌^◌, ◌≤◌, ◌<◌, ltb, length, take, drop, Option, Some, None, Result, Ok, Err}
 use Rattle.sets.specs.Sets.{subset, count}
 use Rattle.dates.specs.Windows.{is_moment}
 use Rattle.dates.specs.declared.Moment.{Moment}
 use Rattle.literals.specs.declared.LiteralSet.{LiteralSet}
 use Rattle.records.specs.Limits.{max_log}
 use Rattle.records.specs.Format.{Read, value, refused, and_then, OrderBook, read_book}
+use Rattle.records.specs.Refusals.{refuses}
+use Rattle.records.specs.declared.refusal.Refusal.{Refusal}
 use Rattle.problem.specs.Problem.{Problem, problem_of, given}
 use Rattle.first_model.specs.Meaning.{first_filling}
 use Rattle.consequence.specs.Meaning.{models, has_model, consequence_of}
@@ -16,12 +18,29 @@ use Rattle.step.specs.Meaning.{question_of, Answer, nothing_left, step, step_of}
 use Rattle.step.specs.IsStep.{Between, IsStep}
 use Rattle.log_form.specs.Format.{Log, log_bytes}
 use Rattle.log_form.specs.Restarts.{is_begun, Begun}
+use Rattle.log_form.specs.declared.Step as shown
 use Rattle.log_writer.specs.Meaning.{run_for, log_of}
 use Rattle.log_writer.specs.Demand3.{Explained}
-use Rattle.engine.specs.declared.ModelAnswer.{ModelAnswer}
-use Rattle.engine.specs.declared.ConsequenceAnswer.{ConsequenceAnswer}
-use Rattle.engine.specs.declared.StepAnswer.{StepAnswer}
-use Rattle.engine.specs.declared.LogAnswer.{LogAnswer}
+use Rattle.log_writer.specs.declared.Written.{Written}
+
+-- ---- the answers: what is asked for, or the refusal
+
+abbrev pub ModelAnswer : Type 0
+ModelAnswer = Result ℕ Refusal
+
+abbrev pub ConsequenceAnswer : Type 0
+ConsequenceAnswer = Result LiteralSet Refusal
+
+-- No step where nothing is left.
+abbrev pub StepAnswer : Type 0
+StepAnswer = Result (Option shown.Step) Refusal
+
+-- The log's length, its number of steps and its total.
+abbrev pub LogAnswer : Type 0
+LogAnswer = Result Written Refusal
+
+abbrev pub log_written : ℕ → ℕ → ℕ → LogAnswer
+log_written size steps total = Ok (record { size = size; steps = steps; total = total })
 
 -- ---- every call but the readers
 
@@ -59,24 +78,24 @@ first_model p = first_filling p.variables (models p)
 -- The answer: that model, or the refusal.
 unfoldable pub model_answer : Read Problem → ModelAnswer
 unfolding with_model
-model_answer m = with_model (λ p. ModelAnswer.Model (first_model p)) ModelAnswer.Refused m
+model_answer m = with_model (λ p. Ok (first_model p)) refuses m
 
 -- The contract of `model`. That it is a model, and before every other, is shown of `first_model` (FirstModel).
 pub record ModelCall (s : List ℕ) (moment : Moment) (r : ModelAnswer) : Type 0 where
   pub said : r ≡ model_answer (posed moment s)
-  pub nine : NineExactly ModelAnswer.Refused (Unit {0}) (posed moment s) r
+  pub nine : NineExactly refuses (Unit {0}) (posed moment s) r
 
 -- ---- the consequence
 
 unfoldable pub consequence_answer : Read Problem → ConsequenceAnswer
 unfolding with_model
-consequence_answer m = with_model (λ p. ConsequenceAnswer.Forced (consequence_of p)) ConsequenceAnswer.Refused m
+consequence_answer m = with_model (λ p. Ok (consequence_of p)) refuses m
 
 -- Demand 2, of what is filled in.
 abbrev pub FillsIn : Read Problem → ConsequenceAnswer → Type 0
-FillsIn (value p end) (ConsequenceAnswer.Forced two) = Demand2 p two
-FillsIn (value p end) (ConsequenceAnswer.Refused number place) = NoFilling p
-FillsIn (refused number place) r = r ≡ ConsequenceAnswer.Refused number place
+FillsIn (value p end) (Ok two) = Demand2 p two
+FillsIn (value p end) (Err refusal) = NoFilling p
+FillsIn (refused number place) r = r ≡ refuses number place
 
 -- Algorithm 2 of what is filled in (E3): so many models of the problem were found, at most one more than there are choices, and what is filled in is what
 -- they have in common over choices.
@@ -87,23 +106,30 @@ pub record FoundModels (p : Problem) (two : LiteralSet) : Type 0 where
 
 -- The same of every answer: where there is none to be found, no filling is a model.
 abbrev pub FoundFor : Read Problem → ConsequenceAnswer → Type 0
-FoundFor (value p end) (ConsequenceAnswer.Forced two) = FoundModels p two
-FoundFor (value p end) (ConsequenceAnswer.Refused number place) = NoFilling p
-FoundFor (refused number place) r = r ≡ ConsequenceAnswer.Refused number place
+FoundFor (value p end) (Ok two) = FoundModels p two
+FoundFor (value p end) (Err refusal) = NoFilling p
+FoundFor (refused number place) r = r ≡ refuses number place
 
 -- The contract of `consequence`.
 pub record ConsequenceCall (s : List ℕ) (moment : Moment) (r : ConsequenceAnswer) : Type 0 where
   pub said : r ≡ consequence_answer (posed moment s)
   pub demand_2 : FillsIn (posed moment s) r
   pub found : FoundFor (posed moment s) r
-  pub nine : NineExactly ConsequenceAnswer.Refused (Unit {0}) (posed moment s) r
+  pub nine : NineExactly refuses (Unit {0}) (posed moment s) r
 
 -- ---- the next step
 
--- The answer on a step.
+-- The answer on a step: none where nothing is left.
 unfoldable pub step_says : Answer → StepAnswer
-step_says nothing_left = StepAnswer.NothingLeft
-step_says (step s) = StepAnswer.Step s.goal (record { yes = s.reasons_on; no = s.reasons_off }) (record { yes = s.new_on; no = s.new_off }) s.cost
+step_says nothing_left = Ok None
+step_says (step s) =
+    Ok (Some
+    (record {
+      goal = s.goal;
+      reasons = record { yes = s.reasons_on; no = s.reasons_off };
+      new = record { yes = s.new_on; no = s.new_off };
+      cost = s.cost;
+    }))
 
 -- A known set lies between the given facts and the consequence.
 unfoldable pub between : LiteralSet → LiteralSet → LiteralSet → Bool
@@ -112,29 +138,29 @@ between facts known forced =
 
 -- The step from a known set, or 10.
 unfoldable pub step_for : LiteralSet → Problem → StepAnswer
-step_for known p = cond (between (given p) known (consequence_of p)) (step_says (step_of (question_of p known))) (StepAnswer.Refused 10 0)
+step_for known p = cond (between (given p) known (consequence_of p)) (step_says (step_of (question_of p known))) (refuses 10 0)
 
 -- After the moment and the book come 9 and 10 in that order.
 unfoldable pub step_answer : ℕ → ℕ → Read Problem → StepAnswer
 unfolding with_model
-step_answer on off m = with_model (step_for (record { yes = on; no = off })) StepAnswer.Refused m
+step_answer on off m = with_model (step_for (record { yes = on; no = off })) refuses m
 
 -- The step for every filling and every candidate: what is answered is the step, nothing is left only where the known set is the consequence, and a problem
 -- is refused only where no filling is a model or the known set does not lie between the given facts and the consequence.
 abbrev pub IsNext : Read Problem → LiteralSet → StepAnswer → Type 0
-IsNext (value p end) known (StepAnswer.Step goal reasons new cost) =
+IsNext (value p end) known (Ok (Some s)) =
     IsStep (question_of p known)
-    (record { goal = goal; reasons_on = reasons.yes; reasons_off = reasons.no; new_on = new.yes; new_off = new.no; cost = cost })
-IsNext (value p end) known StepAnswer.NothingLeft = known ≡ consequence_of p
-IsNext (value p end) known (StepAnswer.Refused number place) =
+    (record { goal = s.goal; reasons_on = s.reasons.yes; reasons_off = s.reasons.no; new_on = s.new.yes; new_off = s.new.no; cost = s.cost })
+IsNext (value p end) known (Ok None) = known ≡ consequence_of p
+IsNext (value p end) known (Err refusal) =
     (f : ℕ) → f < 2 ^ p.variables → models p f ≡ true → Between (given p) known (consequence_of p) → ⊥
-IsNext (refused number place) known r = r ≡ StepAnswer.Refused number place
+IsNext (refused number place) known r = r ≡ refuses number place
 
 -- The contract of `next_step`.
 pub record StepCall (s : List ℕ) (moment : Moment) (on off : ℕ) (r : StepAnswer) : Type 0 where
   pub said : r ≡ step_answer on off (posed moment s)
   pub is_next : IsNext (posed moment s) (record { yes = on; no = off }) r
-  pub nine : NineExactly StepAnswer.Refused (Unit {0}) (posed moment s) r
+  pub nine : NineExactly refuses (Unit {0}) (posed moment s) r
 
 -- ---- the log
 
@@ -151,8 +177,8 @@ log_outcome room (value p end) = cond (ltb room max_log) (refused_with 8 0) (wit
 
 -- The answer: the log's length, its number of steps and its total, or the refusal.
 unfoldable pub log_answer : LogOutcome → LogAnswer
-log_answer (logged l) = LogAnswer.Written (length (log_bytes l)) l.steps l.total
-log_answer (refused_with number place) = LogAnswer.Refused number place
+log_answer (logged l) = log_written (length (log_bytes l)) l.steps l.total
+log_answer (refused_with number place) = refuses number place
 
 -- The buffer at exit: the log and then the old bytes, or as it was.
 unfoldable pub buffer_after : LogOutcome → List ℕ → List ℕ
@@ -165,16 +191,16 @@ pub record LoggedAs (o : LogOutcome) (before after : List ℕ) (r : LogAnswer) :
 
 -- Demand 3: what stands in the buffer at exit is such a log; and where some filling is a model and the buffer is long enough, a log is written.
 abbrev pub Explains : Read Problem → List ℕ → List ℕ → LogAnswer → Type 0
-Explains (value p end) before after (LogAnswer.Written size steps total) = Explained p (take size after) steps total
-Explains (value p end) before after (LogAnswer.Refused number place) =
+Explains (value p end) before after (Ok w) = Explained p (take w.size after) w.steps w.total
+Explains (value p end) before after (Err refusal) =
     (f : ℕ) → f < 2 ^ p.variables → models p f ≡ true → max_log ≤ length before → ⊥
-Explains (refused number place) before after r = r ≡ LogAnswer.Refused number place
+Explains (refused number place) before after r = r ≡ refuses number place
 
 -- The contract of `log`.
 pub record LogCall (s : List ℕ) (moment : Moment) (before after : List ℕ) (r : LogAnswer) : Type 0 where
   pub said : LoggedAs (log_outcome (length before) (posed moment s)) before after r
   pub demand_3 : Explains (posed moment s) before after r
-  pub nine : NineExactly LogAnswer.Refused (max_log ≤ length before) (posed moment s) r
+  pub nine : NineExactly refuses (max_log ≤ length before) (posed moment s) r
 
 -- ---- the log, carried on after a restart (E8)
 
@@ -190,14 +216,14 @@ resumed_outcome written before m = resumed written before (log_outcome (length b
 -- Demand 3 of the log that is carried on, and that what was found begins it; a problem is refused only where no filling is a model, the buffer is too short, or
 -- what was found does not begin its log.
 abbrev pub Resumes : Read Problem → ℕ → List ℕ → List ℕ → LogAnswer → Type 0
-Resumes (value p end) written before after (LogAnswer.Written size steps total) =
-    Explained p (take size after) steps total × Begun written before (take size after)
-Resumes (value p end) written before after (LogAnswer.Refused number place) =
+Resumes (value p end) written before after (Ok w) =
+    Explained p (take w.size after) w.steps w.total × Begun written before (take w.size after)
+Resumes (value p end) written before after (Err refusal) =
     (f : ℕ) → f < 2 ^ p.variables → models p f ≡ true → max_log ≤ length before → Begun written before (log_bytes (log_of (run_for p))) → ⊥
-Resumes (refused number place) written before after r = r ≡ LogAnswer.Refused number place
+Resumes (refused number place) written before after r = r ≡ refuses number place
 
 -- The contract of `resume_log`.
 pub record ResumeCall (s : List ℕ) (moment : Moment) (written : ℕ) (before after : List ℕ) (r : LogAnswer) : Type 0 where
   pub said : LoggedAs (resumed_outcome written before (posed moment s)) before after r
   pub demand_3 : Resumes (posed moment s) written before after r
-  pub nine : NineExactly LogAnswer.Refused (max_log ≤ length before) (posed moment s) r
+  pub nine : NineExactly refuses (max_log ≤ length before) (posed moment s) r

@@ -1,21 +1,21 @@
 -- Always the same model (document 02, E5): what the first model is, for every filling, and that nothing is free in it. proofs/FirstModel shows it.
-use Rattle.std.specs.Prelude.{◌≡◌, true, List, ℕ, ◌^◌, ◌<◌}
+use Rattle.std.specs.Prelude.{◌≡◌, true, List, ℕ, ◌^◌, ◌<◌, Ok, Err}
 use Rattle.dates.specs.declared.Moment.{Moment}
 use Rattle.records.specs.Format.{Read, value, refused, OrderBook}
+use Rattle.records.specs.Refusals.{refuses}
 use Rattle.sat.specs.Meaning.{obeys_rules}
 use Rattle.first_model.specs.Meaning.{First}
 use Rattle.problem.specs.Problem.{Problem, rules_in_force}
 use Rattle.consequence.specs.Demand2.{NoFilling}
 use Rattle.consequence.specs.Algorithm2.{ModelFilling}
-use Rattle.engine.specs.Calls.{ModelCall}
-use Rattle.engine.specs.declared.ModelAnswer.{ModelAnswer}
+use Rattle.engine.specs.Calls.{ModelAnswer, ModelCall}
 
 -- What is answered is a model of the problem and comes before every other one. A problem is refused only where no filling is a model.
 -- `answer_first` shows it of `model_answer`.
 abbrev pub AnswersFirst : Read Problem → ModelAnswer → Type 0
-AnswersFirst (value p end) (ModelAnswer.Model f) = First (ModelFilling p) f
-AnswersFirst (value p end) (ModelAnswer.Refused number place) = NoFilling p
-AnswersFirst (refused number place) r = r ≡ ModelAnswer.Refused number place
+AnswersFirst (value p end) (Ok f) = First (ModelFilling p) f
+AnswersFirst (value p end) (Err refusal) = NoFilling p
+AnswersFirst (refused number place) r = r ≡ refuses number place
 
 -- The same answer to the bytes s and to the bytes t at a moment. `equal_bytes` shows it where they are equal, `same_model` where they read as two books as
 -- below, and

@@ -2,6 +2,7 @@ pub mod Calls
 pub mod Promises
 pub mod Orders
 pub mod Dimacs
+pub mod Numbers
 pub mod FirstModel
 pub mod FewerReasons
 pub mod SameScreens

@@ -8,10 +8,7 @@ use Rattle.book.specs.Answer.{table}
 use Rattle.problem.specs.Problem.{Problem}
 use Rattle.engine.specs.Calls.{model_answer, ModelCall, consequence_answer, ConsequenceCall, step_answer, StepCall, log_outcome, LoggedAs, LogCall}
 use Rattle.engine.specs.Calls.{resumed_outcome, ResumeCall}
-use Rattle.engine.specs.declared.ModelAnswer.{ModelAnswer}
-use Rattle.engine.specs.declared.ConsequenceAnswer.{ConsequenceAnswer}
-use Rattle.engine.specs.declared.StepAnswer.{StepAnswer}
-use Rattle.engine.specs.declared.LogAnswer.{LogAnswer}
+use Rattle.engine.specs.Calls.{ModelAnswer, ConsequenceAnswer, StepAnswer, LogAnswer}
 
 -- Every call at a moment answers as if the bytes posed m.
 pub record AnswersAs (m : Read Problem) (s : List ℕ) (moment : Moment) : Type 0 where

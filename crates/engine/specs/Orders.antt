@@ -1,15 +1,16 @@
 -- The starred orders at the counter in one table, computed from the meanings.
-use Rattle.std.specs.Prelude.{◌≡◌, refl, List, [], ◌∷◌, map, ℕ, pos, negsuc}
+use Rattle.std.specs.Prelude.{◌≡◌, refl, List, [], ◌∷◌, map, ℕ, pos, negsuc, None, Some, Ok}
 use Rattle.std.specs.Int.Count.{ones, count_trailing_zeros}
 use Rattle.sets.specs.Sets.{bit, has, insert, subset, disjoint, diff, members_from, members_below, members}
 use Rattle.dates.specs.Calendar.{date_of, days_of_months, days_of_years, day_number, weekday}
 use Rattle.dates.specs.Windows.{is_moment, is_open, in_force}
 use Rattle.dates.specs.declared.Moment.{Moment}
-use Rattle.literals.specs.Literal.{byte_of, literals_of}
+use Rattle.literals.specs.Literal.{Literal, byte_of, literals_of}
 use Rattle.literals.specs.Truth.{holds, obeys, all_hold, yes_bit, no_bit, yes_mask, no_mask, all_hold_masks}
 use Rattle.literals.specs.declared.LiteralSet.{LiteralSet}
 use Rattle.records.specs.Limits.{max_log}
 use Rattle.records.specs.Format.{Read}
+use Rattle.records.specs.Refusals.{refuses as refusal}
 use Rattle.book.specs.Readings.{read_computed}
 use Rattle.book.specs.Answer.{table, padded}
 use Rattle.book.specs.Orders.{order_a, order_b, order_c, order_d, order_e, order_f, order_g, order_h, order_i, order_j}
@@ -28,14 +29,7 @@ use Rattle.log_form.specs.Format.{list_bytes, two_bytes, four_bytes, record_byte
 use Rattle.log_writer.specs.Meaning.{costs_written, with_new, run_from, run_of, run_for}
 use Rattle.engine.specs.Calls.{read_at, posed, with_model, first_model, model_answer, consequence_answer, between, step_says, step_for, step_answer}
 use Rattle.engine.specs.Calls.{log_outcome, log_answer, buffer_after}
-use Rattle.engine.specs.declared.ModelAnswer.{ModelAnswer}
-use Rattle.engine.specs.declared.ModelAnswer.TheVariants as Model
-use Rattle.engine.specs.declared.ConsequenceAnswer.{ConsequenceAnswer}
-use Rattle.engine.specs.declared.ConsequenceAnswer.TheVariants as Consequence
-use Rattle.engine.specs.declared.StepAnswer.{StepAnswer}
-use Rattle.engine.specs.declared.StepAnswer.TheVariants as Next
-use Rattle.engine.specs.declared.LogAnswer.{LogAnswer}
-use Rattle.engine.specs.declared.LogAnswer.TheVariants as Log
+use Rattle.engine.specs.Calls.{ModelAnswer, ConsequenceAnswer, StepAnswer, LogAnswer, log_written}
 
 abbrev pub set : ℕ → ℕ → LiteralSet
 set y n = record { yes = y; no = n }
@@ -69,11 +63,11 @@ pub record OrderRow : Type 0 where
 
 abbrev pub refuses : List ℕ → ℕ → ℕ → OrderRow
 refuses s number place =
-    record { bytes = s; model = Model.Refused number place; consequence = Consequence.Refused number place; answer = Log.Refused number place; log = [] }
+    record { bytes = s; model = refusal number place; consequence = refusal number place; answer = refusal number place; log = [] }
 
 abbrev pub logs : List ℕ → ℕ → LiteralSet → ℕ → ℕ → ℕ → List ℕ → OrderRow
 logs s m c size steps total bytes =
-    record { bytes = s; model = Model.Model m; consequence = Consequence.Forced c; answer = Log.Written size steps total; log = bytes }
+    record { bytes = s; model = Ok m; consequence = Ok c; answer = log_written size steps total; log = bytes }
 
 -- In c the first model says yes of 1 2 3 4 5 and the consequence is 1 2 3 4, in d of 1, which follows, in g of none, where -1 follows, in h of 1, in i of
 -- 1 2 3, which follow.
@@ -158,17 +152,20 @@ pub record KnownRow : Type 0 where
 abbrev from : List ℕ → ℕ → ℕ → StepAnswer → KnownRow
 from s y n a = record { bytes = s; yes = y; no = n; answer = a }
 
+abbrev next : Literal → LiteralSet → LiteralSet → ℕ → StepAnswer
+next goal reasons new cost = Ok (Some (record { goal = goal; reasons = reasons; new = new; cost = cost }))
+
 -- P from 1 3, from 1 2 3, from 1 2 3 4 (nothing left) and from 1 alone, without fact 3 (10); then d, g, h and i from their facts.
 unfoldable pub steps : List KnownRow
 steps =
-    from order_c 5 0 (Next.Step (pos 2) (set 1 0) (set 2 0) 8)
-    ∷ from order_c 7 0 (Next.Step (pos 4) (set 6 0) (set 8 0) 12)
-    ∷ from order_c 15 0 Next.NothingLeft
-    ∷ from order_c 1 0 (Next.Refused 10 0)
-    ∷ from order_d 0 0 (Next.Step (pos 1) (set 0 0) (set 1 0) 9)
-    ∷ from order_g 0 0 (Next.Step (negsuc 0) (set 0 0) (set 0 1) 5)
-    ∷ from order_h 1 0 Next.NothingLeft
-    ∷ from order_i 1 0 (Next.Step (pos 2) (set 1 0) (set 6 0) 2)
+    from order_c 5 0 (next (pos 2) (set 1 0) (set 2 0) 8)
+    ∷ from order_c 7 0 (next (pos 4) (set 6 0) (set 8 0) 12)
+    ∷ from order_c 15 0 (Ok None)
+    ∷ from order_c 1 0 (refusal 10 0)
+    ∷ from order_d 0 0 (next (pos 1) (set 0 0) (set 1 0) 9)
+    ∷ from order_g 0 0 (next (negsuc 0) (set 0 0) (set 0 1) 5)
+    ∷ from order_h 1 0 (Ok None)
+    ∷ from order_i 1 0 (next (pos 2) (set 1 0) (set 6 0) 2)
     ∷ []
 
 pub steps_agree : map (λ (r : KnownRow). from r.bytes r.yes r.no (step_answer r.yes r.no (posed noon r.bytes))) steps ≡ steps
@@ -178,19 +175,19 @@ steps_agree = refl
 -- What is said in the order before E6, of a known set that is not refused.
 unfoldable pub lower_goal_answer : ℕ → ℕ → Read Problem → StepAnswer
 unfolding with_model
-lower_goal_answer on off m = with_model (λ p. step_says (lower_goal_step (question_of p (set on off)))) Next.Refused m
+lower_goal_answer on off m = with_model (λ p. step_says (lower_goal_step (question_of p (set on off)))) refusal m
 
 -- From 1 2 3 the reason for 4 is 3, before E6 it was 1 2; and 5 from 3 comes first, before E6 it was 4 from 1 2.
 unfoldable pub fewer_steps : List KnownRow
 fewer_steps =
-    from order_fewer_facts 7 0 (Next.Step (pos 4) (set 4 0) (set 8 0) 11)
-    ∷ from order_higher_goal 7 0 (Next.Step (pos 5) (set 4 0) (set 16 0) 11)
+    from order_fewer_facts 7 0 (next (pos 4) (set 4 0) (set 8 0) 11)
+    ∷ from order_higher_goal 7 0 (next (pos 5) (set 4 0) (set 16 0) 11)
     ∷ []
 
 unfoldable pub lower_goal_steps : List KnownRow
 lower_goal_steps =
-    from order_fewer_facts 7 0 (Next.Step (pos 4) (set 3 0) (set 8 0) 11)
-    ∷ from order_higher_goal 7 0 (Next.Step (pos 4) (set 3 0) (set 8 0) 11)
+    from order_fewer_facts 7 0 (next (pos 4) (set 3 0) (set 8 0) 11)
+    ∷ from order_higher_goal 7 0 (next (pos 4) (set 3 0) (set 8 0) 11)
     ∷ []
 
 pub fewer_steps_agree : map (λ (r : KnownRow). from r.bytes r.yes r.no (step_answer r.yes r.no (posed noon r.bytes))) fewer_steps ≡ fewer_steps

@@ -1,26 +1,27 @@
 -- What the inner functions of the calls ask and say.
-use Rattle.std.specs.Prelude.{◌≡◌, true, false, cond, List, ◌++◌, ℕ, ◌^◌, ◌≤◌, ◌<◌, length, drop}
+use Rattle.std.specs.Prelude.{◌≡◌, true, false, cond, List, ◌++◌, ℕ, ◌^◌, ◌≤◌, ◌<◌, length, drop, Result, Ok, Err}
 use Rattle.sets.specs.Sets.{Within}
 use Rattle.literals.specs.declared.LiteralSet.{LiteralSet}
 use Rattle.records.specs.Limits.{max_variables, max_choices, max_cost}
 use Rattle.sat.specs.Meaning.{Model, NoModel}
 use Rattle.first_model.specs.Meaning.{First}
 use Rattle.problem.specs.Problem.{cost_of}
-use Rattle.problem.specs.Masked.{yes_in, no_in, Searchable}
+use Rattle.dates.specs.declared.Moment.{Moment}
+use Rattle.records.specs.Format.{Read, OrderBook}
+use Rattle.records.specs.Promises.{read_answer}
+use Rattle.records.specs.Refusals.{refusal_of, refuses}
+use Rattle.records.specs.declared.refusal.Refusal.{Refusal}
+use Rattle.book.specs.Answer.{masked_book}
+use Rattle.problem.specs.Masked.{masked_from, yes_in, no_in, Searchable}
 use Rattle.problem.specs.declared.MaskedProblem.{MaskedProblem}
 use Rattle.consequence.specs.Meaning.{Theory, contradicts, yes_forced, no_forced, ModelOf}
 use Rattle.consequence.specs.Algorithm2.{Narrowed}
 use Rattle.consequence.specs.Promises.{mask_theory}
 use Rattle.step.specs.Meaning.{Question, asking, Answer, step_of}
-use Rattle.step.specs.Promises.{Asked}
 use Rattle.log_form.specs.Restarts.{is_begun}
 use Rattle.log_writer.specs.Meaning.{run_of, log_of}
-use Rattle.log_writer.specs.Promises.{LogAsked}
-use Rattle.engine.specs.Calls.{between, step_says, LogOutcome, logged, refused_with}
-use Rattle.engine.specs.declared.StepAnswer.{StepAnswer}
-use Rattle.engine.specs.declared.LogAnswer.{LogAnswer}
-use Rattle.engine.specs.declared.ModelAnswer.{ModelAnswer}
-use Rattle.engine.specs.declared.ConsequenceAnswer.{ConsequenceAnswer}
+use Rattle.log_writer.specs.declared.Written.{Written}
+use Rattle.engine.specs.Calls.{ModelAnswer, ConsequenceAnswer, StepAnswer, LogAnswer, between, step_says, LogOutcome, logged, refused_with}
 
 -- ---- the arguments
 
@@ -31,11 +32,15 @@ theory_in p = mask_theory p.variables (yes_in p) (no_in p) p.choices
 abbrev pub forced_in : MaskedProblem → LiteralSet
 forced_in p = record { yes = yes_forced (theory_in p) p.facts.yes p.facts.no; no = no_forced (theory_in p) p.facts.yes p.facts.no }
 
+-- What the code makes of a book that was read at a moment: the problem as it is kept, or the refusal.
+unfoldable pub problem_answer : Moment → Read OrderBook → Result MaskedProblem Refusal
+problem_answer moment m = read_answer (λ b end. masked_from moment (masked_book b)) m
+
 -- ---- the first model, and the consequence
 
 abbrev pub ModelSaid : MaskedProblem → ModelAnswer → Type 0
-ModelSaid p (ModelAnswer.Model m) = First (Model p.variables (yes_in p) (no_in p) p.facts.yes p.facts.no) m
-ModelSaid p (ModelAnswer.Refused number place) = (number ≡ 9) × (place ≡ 0) × NoModel p.variables (yes_in p) (no_in p) p.facts.yes p.facts.no
+ModelSaid p (Ok m) = First (Model p.variables (yes_in p) (no_in p) p.facts.yes p.facts.no) m
+ModelSaid p (Err refusal) = (refusal ≡ refusal_of 9 0) × NoModel p.variables (yes_in p) (no_in p) p.facts.yes p.facts.no
 
 pub record FoundModel (p : MaskedProblem) (r : ModelAnswer) : Type 0 where
   pub said : ModelSaid p r
@@ -48,8 +53,8 @@ pub record ForcedFound (p : MaskedProblem) (r : LiteralSet) : Type 0 where
   pub narrowed : Narrowed p.variables p.choices (ModelOf (theory_in p) p.facts.yes p.facts.no) number r
 
 abbrev pub ForcedSaid : MaskedProblem → ConsequenceAnswer → Type 0
-ForcedSaid p (ConsequenceAnswer.Forced r) = ForcedFound p r
-ForcedSaid p (ConsequenceAnswer.Refused number place) = (number ≡ 9) × (place ≡ 0) × (contradicts (theory_in p) p.facts.yes p.facts.no ≡ true)
+ForcedSaid p (Ok r) = ForcedFound p r
+ForcedSaid p (Err refusal) = (refusal ≡ refusal_of 9 0) × (contradicts (theory_in p) p.facts.yes p.facts.no ≡ true)
 
 pub record FoundForced (p : MaskedProblem) (r : ConsequenceAnswer) : Type 0 where
   pub said : ForcedSaid p r
@@ -57,47 +62,39 @@ pub record FoundForced (p : MaskedProblem) (r : ConsequenceAnswer) : Type 0 wher
 -- ---- the next step
 
 -- The step that is asked for.
-abbrev pub step_question : MaskedProblem → List (List ℕ) → LiteralSet → LiteralSet → Answer
-step_question p costs forced known = step_of (asking (theory_in p) costs forced known)
+abbrev pub step_question : MaskedProblem → LiteralSet → LiteralSet → Answer
+step_question p forced known = step_of (asking (theory_in p) p.costs forced known)
 
 -- 9 where the given facts contradict the rules, then 10 where the known set is not between them and what they force, then the step.
-unfoldable pub step_in : MaskedProblem → List (List ℕ) → LiteralSet → StepAnswer
-step_in p costs known =
-    cond (contradicts (theory_in p) p.facts.yes p.facts.no) (StepAnswer.Refused 9 0)
-    (cond (between p.facts known (forced_in p)) (step_says (step_question p costs (forced_in p) known)) (StepAnswer.Refused 10 0))
+unfoldable pub step_in : MaskedProblem → LiteralSet → StepAnswer
+step_in p known =
+    cond (contradicts (theory_in p) p.facts.yes p.facts.no) (refuses 9 0)
+    (cond (between p.facts known (forced_in p)) (step_says (step_question p (forced_in p) known)) (refuses 10 0))
 
--- A problem and costs that a step can be taken of.
-pub record Steppable (p : MaskedProblem) (costs : List (List ℕ)) : Type 0 where
+-- A problem that a step can be taken of.
+pub record Steppable (p : MaskedProblem) : Type 0 where
   pub searchable : Searchable p
   pub few : p.variables ≤ max_variables
   pub rows : p.choices < 2 ^ max_choices
-  pub cheap : (v column : ℕ) → cost_of costs v column ≤ max_cost
-
-pub record StepReady (p : MaskedProblem) (costs : List (List ℕ)) (forced known : LiteralSet) : Type 0 where
-  pub searchable : Searchable p
-  pub asked : Asked p.variables (yes_in p) (no_in p) p.choices costs forced known
+  pub cheap : (v column : ℕ) → cost_of p.costs v column ≤ max_cost
 
 -- ---- the log
 
 -- What the first step of the log asks.
-abbrev pub log_question : MaskedProblem → List (List ℕ) → LiteralSet → Question
-log_question p costs forced = asking (theory_in p) costs forced p.facts
+abbrev pub log_question : MaskedProblem → LiteralSet → Question
+log_question p forced = asking (theory_in p) p.costs forced p.facts
 
 -- 9 where the given facts contradict the rules, then the log.
-unfoldable pub log_in : MaskedProblem → List (List ℕ) → LogOutcome
-log_in p costs = cond (contradicts (theory_in p) p.facts.yes p.facts.no) (refused_with 9 0) (logged (log_of (run_of (log_question p costs (forced_in p)))))
+unfoldable pub log_in : MaskedProblem → LogOutcome
+log_in p = cond (contradicts (theory_in p) p.facts.yes p.facts.no) (refused_with 9 0) (logged (log_of (run_of (log_question p (forced_in p)))))
 
--- A problem and costs that a log can be made of: the given facts are over choices.
-pub record Loggable (p : MaskedProblem) (costs : List (List ℕ)) : Type 0 where
-  pub steppable : Steppable p costs
+-- A problem that a log can be made of: the given facts are over choices.
+pub record Loggable (p : MaskedProblem) : Type 0 where
+  pub steppable : Steppable p
   pub yes_facts : Within p.facts.yes p.choices
   pub no_facts : Within p.facts.no p.choices
 
-pub record LogReady (p : MaskedProblem) (costs : List (List ℕ)) (forced : LiteralSet) : Type 0 where
-  pub searchable : Searchable p
-  pub asked : LogAsked p.variables (yes_in p) (no_in p) p.choices costs forced p.facts
-
--- The log with these bytes, steps and total is put into a buffer, or 15.
-pub record PutLog (log : List ℕ) (steps total written : ℕ) (before after : List ℕ) (r : LogAnswer) : Type 0 where
-  pub answered : r ≡ cond (is_begun written before log) (LogAnswer.Written (length log) steps total) (LogAnswer.Refused 15 0)
+-- The log with these bytes and this answer is put into a buffer, or 15.
+pub record PutLog (log : List ℕ) (answer : Written) (written : ℕ) (before after : List ℕ) (r : LogAnswer) : Type 0 where
+  pub answered : r ≡ cond (is_begun written before log) (Ok answer) (refuses 15 0)
   pub buffer : after ≡ cond (is_begun written before log) (log ++ drop (length log) before) before

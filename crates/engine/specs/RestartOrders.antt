@@ -9,8 +9,8 @@ use Rattle.log_form.specs.Restarts.{is_prefix, is_begun}
 use Rattle.log_writer.specs.Meaning.{costs_written, with_new, run_from, run_of, run_for}
 use Rattle.engine.specs.Calls.{posed, with_model, log_outcome, log_answer, buffer_after, resumed, resumed_outcome}
 use Rattle.engine.specs.Orders.{noon, computed, read_and_posed}
-use Rattle.engine.specs.declared.LogAnswer.{LogAnswer}
-use Rattle.engine.specs.declared.LogAnswer.TheVariants as Log
+use Rattle.records.specs.Refusals.{refuses as refusal}
+use Rattle.engine.specs.Calls.{LogAnswer, log_written as logged}
 
 -- A book, the number of first bytes that are to be as written, the buffer as it is found, what is answered, and the buffer as it is left.
 pub record RestartRow : Type 0 where
@@ -31,11 +31,11 @@ junk n = replicate n 0xA5
 -- P found with the first n bytes of its log, and junk behind them: its log and answer, and behind it the junk.
 abbrev carried_on : ℕ → RestartRow
 carried_on n =
-    record { book = order_c; written = n; found = take n log_of_p ++ junk (max_log - n); answer = Log.Written 26 2 20; left = log_of_p ++ junk (max_log - 26) }
+    record { book = order_c; written = n; found = take n log_of_p ++ junk (max_log - n); answer = logged 26 2 20; left = log_of_p ++ junk (max_log - 26) }
 
 -- A refusal leaves what was found.
 abbrev refuses : List ℕ → ℕ → List ℕ → ℕ → RestartRow
-refuses s n found number = record { book = s; written = n; found = found; answer = Log.Refused number 0; left = found }
+refuses s n found number = record { book = s; written = n; found = found; answer = refusal number 0; left = found }
 
 -- Broken off at 0, inside the first record, between the records, inside OK, and after the last byte. 15 for a wrong goal in the first record, for one byte
 -- more than the log has, whatever it is, and for one more than the buffer has; 8 and 9 come before it.

@@ -1,6 +1,6 @@
 -- Rules typed in another order (document 02, E1 and, with one moment for both books, E7): which books have the same screens at a moment, and what is claimed
 -- of the calls, for any bytes that read as two such books and by the contracts of the calls alone. `same_screens` (proofs/SameScreens) shows it.
-use Rattle.std.specs.Prelude.{◌≡◌, true, ◌⊎◌, ℕ, ◌≤◌, ◌<◌, length, drop}
+use Rattle.std.specs.Prelude.{◌≡◌, true, ◌⊎◌, ℕ, ◌≤◌, ◌<◌, length, drop, Ok}
 use mathlib.Core.List.{List, ◌++◌, Memᴰ}
 use Rattle.sets.specs.Sets.{inter}
 use Rattle.dates.specs.Windows.{is_moment}
@@ -11,11 +11,9 @@ use Rattle.records.specs.Format.{Read, value, refused, OrderBook, read_book}
 use Rattle.problem.specs.Problem.{Problem, rules_in_force, problem_of}
 use Rattle.consequence.specs.Meaning.{theory_of}
 use Rattle.consequence.specs.SameFillings.{SameFillings}
+use Rattle.records.specs.Refusals.{refuses}
+use Rattle.engine.specs.Calls.{ModelAnswer, ConsequenceAnswer, StepAnswer, LogAnswer, log_written}
 use Rattle.engine.specs.Calls.{posed, NoModelIn, ModelCall, ConsequenceCall, StepCall, LogCall}
-use Rattle.engine.specs.declared.ModelAnswer.{ModelAnswer}
-use Rattle.engine.specs.declared.ConsequenceAnswer.{ConsequenceAnswer}
-use Rattle.engine.specs.declared.StepAnswer.{StepAnswer}
-use Rattle.engine.specs.declared.LogAnswer.{LogAnswer}
 
 -- ---- which books
 
@@ -61,22 +59,22 @@ pub record EqualLogs (before after : List ℕ) (r : LogAnswer) (other_before oth
   pub bytes : List ℕ
   pub steps : ℕ
   pub total : ℕ
-  pub written : r ≡ LogAnswer.Written (length bytes) steps total
-  pub other_written : o ≡ LogAnswer.Written (length bytes) steps total
+  pub written : r ≡ log_written (length bytes) steps total
+  pub other_written : o ≡ log_written (length bytes) steps total
   pub buffer : after ≡ bytes ++ drop (length bytes) before
   pub other_buffer : other_after ≡ bytes ++ drop (length bytes) other_before
 
 -- With buffers long enough the logs are equal, or both calls refuse with 9. A call with a short buffer gives 8, whatever the other does.
 pub record SameLogs (moment : Moment) (s t : List ℕ) : Type 0 where
   pub equal : {before after other_before other_after : List ℕ} {r o : LogAnswer} → LogCall s moment before after r → LogCall t moment other_before other_after o
-      → max_log ≤ length before → max_log ≤ length other_before → EqualLogs before after r other_before other_after o ⊎ BothNine LogAnswer.Refused r o
-  pub short : {before after : List ℕ} {r : LogAnswer} → LogCall s moment before after r → length before < max_log → (r ≡ LogAnswer.Refused 8 0) ×
+      → max_log ≤ length before → max_log ≤ length other_before → EqualLogs before after r other_before other_after o ⊎ BothNine refuses r o
+  pub short : {before after : List ℕ} {r : LogAnswer} → LogCall s moment before after r → length before < max_log → (r ≡ refuses 8 0) ×
       (after ≡ before)
   pub other_short : {before after : List ℕ} {o : LogAnswer} → LogCall t moment before after o → length before < max_log
-      → (o ≡ LogAnswer.Refused 8 0) × (after ≡ before)
+      → (o ≡ refuses 8 0) × (after ≡ before)
   -- where neither has a model, both give 9 if their buffers are long enough
   pub nine : {before after other_before other_after : List ℕ} {r o : LogAnswer} → LogCall s moment before after r → LogCall t moment other_before other_after o
-      → max_log ≤ length before → max_log ≤ length other_before → NoModelIn (posed moment s) → NoModelIn (posed moment t) → BothNine LogAnswer.Refused r o
+      → max_log ≤ length before → max_log ≤ length other_before → NoModelIn (posed moment s) → NoModelIn (posed moment t) → BothNine refuses r o
 
 -- The choices of the problem that bytes pose.
 abbrev pub choices_in : Read Problem → ℕ
@@ -86,16 +84,16 @@ choices_in (value p end) = p.choices
 -- Both calls answer a model, and the two are the same over the choices.
 pub record SameChosen (choices : ℕ) (r o : ModelAnswer) : Type 0 where
   pub filling : ℕ
-  pub answered : r ≡ ModelAnswer.Model filling
+  pub answered : r ≡ Ok filling
   pub other_filling : ℕ
-  pub other_answered : o ≡ ModelAnswer.Model other_filling
+  pub other_answered : o ≡ Ok other_filling
   pub same_chosen : inter filling choices ≡ inter other_filling choices
 
 -- One has a model exactly where the other has, and since the choices are the weightiest variables the first models choose the same. Their helpers may differ.
 pub record SameModels (moment : Moment) (s t : List ℕ) : Type 0 where
   pub none_there : NoModelIn (posed moment s) → NoModelIn (posed moment t)
   pub none_back : NoModelIn (posed moment t) → NoModelIn (posed moment s)
-  pub both : {r o : ModelAnswer} → ModelCall s moment r → ModelCall t moment o → SameChosen (choices_in (posed moment s)) r o ⊎ BothNine ModelAnswer.Refused r o
+  pub both : {r o : ModelAnswer} → ModelCall s moment r → ModelCall t moment o → SameChosen (choices_in (posed moment s)) r o ⊎ BothNine refuses r o
 
 -- The same screens: the same is filled in, the next step from the same known set is the same, refusals included, and the logs have equal bytes.
 -- Ruled out: helpers counted among the choices; the first contradiction that is found taken for the cheapest.

@@ -1,12 +1,11 @@
 -- What the call that prints means, for any input and any buffer: the text, and every byte of the buffer. An input is the six bytes of a moment and then the
 -- bytes of a book (document 02, E7).
-use Rattle.std.specs.Prelude.{◌≡◌, cond, List, ◌++◌, ℕ, ◌*◌, ltb, length, drop}
+use Rattle.std.specs.Prelude.{◌≡◌, cond, List, ◌++◌, ℕ, ◌*◌, ltb, length, drop, Option, Some, None}
 use Rattle.records.specs.Limits.{max_log}
 use Rattle.dates.specs.declared.Moment.{Moment}
 use Rattle.records.specs.Format.{pair, date_at}
 use Rattle.engine.specs.Calls.{posed, LogOutcome, logged, refused_with, log_outcome}
 use Rattle.printing.specs.Text.{log_text, refusal_text}
-use Rattle.printing.specs.declared.Printed.{Printed}
 
 -- The bytes of a text, at most: six for each byte of a log (`text_length`, proofs/LogLaws).
 abbrev pub max_text : ℕ
@@ -38,14 +37,14 @@ unfoldable pub text_of : List ℕ → List ℕ
 text_of input = outcome_text (input_outcome input)
 
 -- The answer: the text's length, or that the buffer is too short.
-unfoldable pub print_answer : List ℕ → List ℕ → Printed
-print_answer text before = cond (ltb (length before) max_text) Printed.Short (Printed.Text (length text))
+unfoldable pub print_answer : List ℕ → List ℕ → Option ℕ
+print_answer text before = cond (ltb (length before) max_text) None (Some (length text))
 
 -- The buffer at exit: the text and then the old bytes, or as it was.
 unfoldable pub printed_buffer : List ℕ → List ℕ → List ℕ
 printed_buffer text before = cond (ltb (length before) max_text) before (text ++ drop (length text) before)
 
 -- The contract of `print`.
-pub record PrintCall (input before after : List ℕ) (r : Printed) : Type 0 where
+pub record PrintCall (input before after : List ℕ) (r : Option ℕ) : Type 0 where
   pub answered : r ≡ print_answer (text_of input) before
   pub buffer : after ≡ printed_buffer (text_of input) before

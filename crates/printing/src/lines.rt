@@ -14,13 +14,6 @@ pub struct Line {
     pub size: usize,
 }
 
-// The number in two bytes, the high one first.
-fn two_bytes(high: u8, low: u8) -> u64
-    ensures { result ≡ 256 * high + low }
-{
-    256 * high as u64 + low as u64
-}
-
 // The line of a step, from the fields of its record.
 fn put_line(
     out: &mut [u8],
@@ -35,24 +28,25 @@ fn put_line(
     ensures { Put out.old at (step_text number (of_fields goal facts.now new.now cost)) out.new result }
 {
     let numbered = text::put_field(out, at, b"step ", number);
-    let parted = text::put_word(out, numbered, b" goal ");
+    let parted = log_form::put_bytes(out, numbered, b" goal ");
     let aimed = text::put_literal(out, parted, goal);
     let reasoned = text::put_list(out, aimed, b" from", facts);
     let listed = text::put_list(out, reasoned, b" new", new);
     let priced = text::put_field(out, listed, b" cost ", cost);
-    text::put_word(out, priced, b"\n")
+    log_form::put_bytes(out, priced, b"\n")
 }
 
 // The line of the ST record at the front of `s`.
+#[tactic(auto, using(crate::proofs::FieldLaws::fields_are))]
 fn put_step(out: &mut [u8], at: usize, number: u64, s: &[u8]) -> Line
-    requires s_in_bounds { record_size s.now ≤ length s.now }
-    requires s_in_bounds_2 { at + length (step_text number (record_in s.now)) ≤ length out.old }
+    requires record_in_bounds { record_size s.now ≤ length s.now }
+    requires line_in_bounds { at + length (step_text number (record_in s.now)) ≤ length out.old }
     ensures { LinePut out.old at number s.now out.new result }
 {
     let facts_end = 4 + s[3] as usize;
     let new = facts_end + 1;
     let new_end = new + s[facts_end] as usize;
-    let cost = two_bytes(s[new_end], s[new_end + 1]);
+    let cost = u16::from_be_bytes([s[new_end], s[new_end + 1]]) as u64;
     let facts = &s[4..facts_end];
     let next = put_line(out, at, number, s[2], facts, &s[new..new_end], cost);
     Line {
@@ -62,14 +56,13 @@ fn put_step(out: &mut [u8], at: usize, number: u64, s: &[u8]) -> Line
 }
 
 // The line of the OK record at the front of `s`.
+#[tactic(auto, unfolding(crate::specs::Text::done_text))]
 fn put_done(out: &mut [u8], at: usize, s: &[u8]) -> usize
-    requires in_bounds { 7 ≤ length s.now }
-    requires s_in_bounds { at + length (done_text (get_or s.now 2 0) (total_in s.now)) ≤ length out.old }
+    requires record_in_bounds { 7 ≤ length s.now }
+    requires line_in_bounds { at + length (done_text (get_or s.now 2 0) (total_in s.now)) ≤ length out.old }
     ensures { Put out.old at (done_text (get_or s.now 2 0) (total_in s.now)) out.new result }
 {
-    let high = two_bytes(s[3], s[4]);
-    let low = two_bytes(s[5], s[6]);
-    let total = 65536 * high + low;
+    let total = u32::from_be_bytes([s[3], s[4], s[5], s[6]]) as u64;
     text::put_pair(out, at, b"done ", s[2] as u64, b" total ", total)
 }
 

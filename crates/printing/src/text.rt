@@ -1,21 +1,8 @@
-// Words, numbers and literals, put into a buffer from a place on. Each function answers the place after what it put.
+// Numbers, literals and words with them, put into a buffer from a place on. Each function answers the place after what it put.
 ghost use Rattle.std.specs.Prelude.{◌++◌, map, ◌+◌, ◌≤◌, length};
 ghost use Rattle.literals.specs.Literal.{of_byte};
 ghost use Rattle.log_form.specs.Promises.{Put};
 ghost use Rattle.printing.specs.Text.{decimal, literal_text, literals_text, line_end};
-
-// The bytes of a word, as they stand.
-pub fn put_word(out: &mut [u8], at: usize, word: &[u8]) -> usize
-    requires { at + length word.now ≤ length out.old }
-    ensures { Put out.old at word.now out.new result }
-{
-    let mut i = 0;
-    while i < word.len() {
-        out[at + i] = word[i];
-        i += 1;
-    }
-    at + i
-}
 
 // A number in decimal: the digits before its last one, where there are any, and its last one.
 pub fn put_decimal(out: &mut [u8], at: usize, n: u64) -> usize
@@ -35,11 +22,12 @@ pub fn put_field(out: &mut [u8], at: usize, word: &[u8], n: u64) -> usize
     requires { at + length (word.now ++ decimal n) ≤ length out.old }
     ensures { Put out.old at (word.now ++ decimal n) out.new result }
 {
-    let next = put_word(out, at, word);
+    let next = log_form::put_bytes(out, at, word);
     put_decimal(out, next, n)
 }
 
 // A literal from its byte in two's complement.
+#[tactic(auto, using(crate::proofs::LiteralLaws::yes_text, crate::proofs::LiteralLaws::no_text))]
 pub fn put_literal(out: &mut [u8], at: usize, byte: u8) -> usize
     requires { at + length (literal_text (of_byte byte)) ≤ length out.old }
     ensures { Put out.old at (literal_text (of_byte byte)) out.new result }
@@ -56,11 +44,9 @@ pub fn put_literals(out: &mut [u8], at: usize, bytes: &[u8]) -> usize
     ensures { Put out.old at (literals_text (map of_byte bytes.now)) out.new result }
 {
     let mut next = at;
-    let mut i = 0;
-    while i < bytes.len() {
+    for &byte in bytes {
         out[next] = b' ';
-        next = put_literal(out, next + 1, bytes[i]);
-        i += 1;
+        next = put_literal(out, next + 1, byte);
     }
     next
 }
@@ -70,7 +56,7 @@ pub fn put_list(out: &mut [u8], at: usize, word: &[u8], bytes: &[u8]) -> usize
     requires { at + length (word.now ++ literals_text (map of_byte bytes.now)) ≤ length out.old }
     ensures { Put out.old at (word.now ++ literals_text (map of_byte bytes.now)) out.new result }
 {
-    let next = put_word(out, at, word);
+    let next = log_form::put_bytes(out, at, word);
     put_literals(out, next, bytes)
 }
 
@@ -81,5 +67,5 @@ pub fn put_pair(out: &mut [u8], at: usize, first: &[u8], n: u64, second: &[u8], 
 {
     let half = put_field(out, at, first, n);
     let end = put_field(out, half, second, m);
-    put_word(out, end, b"\n")
+    log_form::put_bytes(out, end, b"\n")
 }

@@ -6,22 +6,17 @@ use console::STDOUT;
 use samples::{build, counter};
 use std::os::fd::AsRawFd;
 
-// One more than the number of the last book of `bench/`.
-const AFTER_LAST: u8 = 56;
+// The number of the last book of `bench/`.
+const LAST: u8 = 55;
 
 // 17 November 2026, noon.
 const NOON: [u8; 6] = *b"\x07\xea\x0b\x11\x02\xd0";
 
 // A moment in six bytes.
 fn moment(year: u16, month: u8, day: u8, minute: u16) -> [u8; 6] {
-    [
-        (year / 256) as u8,
-        (year % 256) as u8,
-        month,
-        day,
-        (minute / 256) as u8,
-        (minute % 256) as u8,
-    ]
+    let [year_high, year_low] = year.to_be_bytes();
+    let [minute_high, minute_low] = minute.to_be_bytes();
+    [year_high, year_low, month, day, minute_high, minute_low]
 }
 
 // The book in a file of the folder that the program runs in, at a moment.
@@ -36,9 +31,10 @@ fn book(rt: &HostRuntime, path: &[u8]) {
     book_at(rt, NOON, path);
 }
 
-// The same at a moment that is named on a line before it.
-fn dated(rt: &HostRuntime, name: &[u8], moment: [u8; 6], path: &[u8]) {
-    io::write_all(STDOUT, name);
+// The same at a moment that is named on a line before it. What `console` shows goes to the descriptor itself, and so does this line:
+// a `println!` beside it could come out of turn.
+fn dated(rt: &HostRuntime, name: &str, moment: [u8; 6], path: &[u8]) {
+    io::write_all(STDOUT, name.as_bytes());
     book_at(rt, moment, path);
 }
 
@@ -69,44 +65,30 @@ fn order(letter: u8) {
     let mut name = *b"order a:\n";
     name[6] = letter;
     io::write_all(STDOUT, &name);
-    let d = counter::order(letter);
-    let bytes = d.bytes;
     let noon = build::bytes(build::empty(), &NOON);
-    let whole = build::bytes(noon, build::part(&bytes, d.len));
-    let input = whole.bytes;
-    console::show(build::part(&input, whole.len));
-}
-
-// The first bytes of noon, so many, and nothing after them.
-fn short_input(size: u8) {
-    let mut name = *b"input of 0 bytes:\n";
-    name[9] = b'0' + size % 10;
-    io::write_all(STDOUT, &name);
-    let noon = NOON;
-    console::show(build::part(&noon, size as usize));
+    let input = build::bytes(noon, counter::order(letter).as_slice());
+    console::show(input.as_slice());
 }
 
 // The books of `bench/`.
 fn bench_books(rt: &HostRuntime) {
-    let end = AFTER_LAST;
-    for n in 1..end {
+    for n in 1..=LAST {
         bench(rt, n);
     }
 }
 
 // The orders at the counter, a to j.
 fn orders() {
-    for letter in b'a'..b'k' {
+    for letter in b'a'..=b'j' {
         order(letter);
     }
 }
 
 // A book for each number that `why` can give. 8 is for a log's buffer that is too short, 10 for the next step.
 fn refused_books(rt: &HostRuntime) {
-    for number in 1..8 {
+    for number in [1, 2, 3, 4, 5, 6, 7, 9] {
         refused(rt, number);
     }
-    refused(rt, 9);
     book(rt, b"books/refused-14.book");
 }
 
@@ -114,34 +96,17 @@ fn refused_books(rt: &HostRuntime) {
 // In force on the first day at the first minute, and on the last day at the last minute; out of force a minute before the first one,
 // at the end minute, on the day before the first one, on the end day, and on a Saturday.
 fn season(rt: &HostRuntime) {
-    let path = b"books/season.book";
-    dated(rt, b"1 March 2024, 9:00\n", moment(2024, 3, 1, 540), path);
-    dated(
-        rt,
-        b"31 October 2024, 17:29\n",
-        moment(2024, 10, 31, 1049),
-        path,
-    );
-    dated(rt, b"1 March 2024, 8:59\n", moment(2024, 3, 1, 539), path);
-    dated(
-        rt,
-        b"31 October 2024, 17:30\n",
-        moment(2024, 10, 31, 1050),
-        path,
-    );
-    dated(
-        rt,
-        b"29 February 2024, 12:00\n",
-        moment(2024, 2, 29, 720),
-        path,
-    );
-    dated(
-        rt,
-        b"1 November 2024, 12:00\n",
-        moment(2024, 11, 1, 720),
-        path,
-    );
-    dated(rt, b"2 March 2024, 12:00\n", moment(2024, 3, 2, 720), path);
+    for (name, moment) in [
+        ("1 March 2024, 9:00\n", moment(2024, 3, 1, 540)),
+        ("31 October 2024, 17:29\n", moment(2024, 10, 31, 1049)),
+        ("1 March 2024, 8:59\n", moment(2024, 3, 1, 539)),
+        ("31 October 2024, 17:30\n", moment(2024, 10, 31, 1050)),
+        ("29 February 2024, 12:00\n", moment(2024, 2, 29, 720)),
+        ("1 November 2024, 12:00\n", moment(2024, 11, 1, 720)),
+        ("2 March 2024, 12:00\n", moment(2024, 3, 2, 720)),
+    ] {
+        dated(rt, name, moment, b"books/season.book");
+    }
 }
 
 // Moments that cannot be, before a damaged book and before P.
@@ -149,22 +114,26 @@ fn impossible_moments(rt: &HostRuntime) {
     let damaged = b"books/refused-6.book";
     dated(
         rt,
-        b"31 April 2024, 12:00\n",
+        "31 April 2024, 12:00\n",
         moment(2024, 4, 31, 720),
         damaged,
     );
     dated(
         rt,
-        b"1 March 2024, 24:00\n",
+        "1 March 2024, 24:00\n",
         moment(2024, 3, 1, 1440),
         b"books/p.book",
     );
 }
 
-// The first bytes of a moment: fewer than six are no moment, and after six of them the book has no byte.
+// The first bytes of a moment, so many, and nothing after them: fewer than six are no moment, and after six of them the book has no
+// byte.
 fn short_inputs() {
-    for size in 0..7 {
-        short_input(size);
+    for size in 0..=NOON.len() {
+        let mut name = *b"input of 0 bytes:\n";
+        name[9] = b'0' + (size % 10) as u8;
+        io::write_all(STDOUT, &name);
+        console::show(&NOON[..size]);
     }
 }
 

@@ -3,11 +3,10 @@ use Rattle.std.proofs.Common.{refl}
 use Rattle.c_interface.proofs.SeenLaws.{seen_done, seen_refused}
 use Rattle.c_interface.proofs.why_model.Goals as goal
 
-pub returns-in-Refused : goal.returns-in-Refused
-returns-in-Refused c =
+pub returns-in-Err : goal.returns-in-Err
+returns-in-Err c =
     let m = rw c.moment_of-moment.ensures at c.model.ensures in
-    seen_refused m m.said c.in-Refused.is refl c.refusal.ensures
+    seen_refused m m.said c.in-Err.is refl c.refusal.ensures
 
-pub returns-in-Model : goal.returns-in-Model
-returns-in-Model c = let m = rw c.moment_of-moment.ensures at c.model.ensures in seen_done m m.said
-    c.in-Model.is refl
+pub returns-in-Ok : goal.returns-in-Ok
+returns-in-Ok c = let m = rw c.moment_of-moment.ensures at c.model.ensures in seen_done m m.said c.in-Ok.is refl

@@ -3,12 +3,12 @@ use Rattle.std.proofs.Common.{refl}
 use Rattle.c_interface.proofs.SeenLaws.{seen_done, seen_refused}
 use Rattle.c_interface.proofs.why_read_dimacs.Goals as goal
 
-pub returns-in-Refused : goal.returns-in-Refused
-returns-in-Refused c =
+pub returns-in-Err : goal.returns-in-Err
+returns-in-Err c =
     let m = c.read_dimacs.ensures in
-    seen_refused m m.said.answered c.in-Refused.is refl c.refusal.ensures
+    seen_refused m m.said.answered c.in-Err.is refl c.refusal.ensures
 
-pub returns-in-Written : goal.returns-in-Written
-returns-in-Written c =
+pub returns-in-Ok : goal.returns-in-Ok
+returns-in-Ok c =
     let m = c.read_dimacs.ensures in
-    seen_done m m.said.answered c.in-Written.is refl
+    seen_done m m.said.answered c.in-Ok.is refl

@@ -1,22 +1,20 @@
 -- `engine::log` meets its contract. Assumes nothing.
-use Rattle.std.proofs.Common.{refl, rules}
-use Rattle.engine.proofs.ProblemLaws.{taken, taken_fits, taken_loggable}
+use Rattle.std.proofs.Common.{refl}
+use Rattle.std.proofs.lemmas.Result.{err_from_is_err_and}
+use Rattle.engine.proofs.ProblemLaws.{taken, not_taken, taken_loggable}
 use Rattle.engine.proofs.LogLaws.{log_short, log_refused, log_taken}
 use Rattle.engine.proofs.log.Goals as goal
 
 pub returns-then-buffer-lt-MAX_LOG : goal.returns-then-buffer-lt-MAX_LOG
-returns-then-buffer-lt-MAX_LOG c = log_short (taken c.read_at-reading.ensures c.in-Accepted.is) c.if-buffer-lt-MAX_LOG.true refl
+returns-then-buffer-lt-MAX_LOG c = rw c.at.ensures (log_short (taken c.in_ok-p.ensures) c.if-buffer-lt-MAX_LOG.true refl)
 
-pub of_book-requires : goal.of_book-requires
-of_book-requires c =
-    let t = taken_fits _ _ c.read_at-reading.ensures c.in-Accepted.is in
-    record { variables_le_width = t.0; choices_le_width = t.1.0; rules_le_max_rules = t.1.1.0; moment_value = t.1.1.1 }
+pub write_log-requires : goal.write_log-requires
+write_log-requires c = record { loggable = taken_loggable (taken c.in_ok-p.ensures); max_log_in_bounds = c.if-buffer-lt-MAX_LOG.false }
 
-pub log_of-requires : goal.log_of-requires
-log_of-requires c = search (rules, taken, taken_loggable)
+pub returns-in_err-p : goal.returns-in_err-p
+returns-in_err-p c =
+    let e = err_from_is_err_and c.from_residual.result c.from_residual.ensures.1 in
+    rw (e.1, e.2) (log_refused (not_taken c.in_err-p.ensures))
 
-pub returns-in-Refused : goal.returns-in-Refused
-returns-in-Refused c = search log_refused
-
-pub returns-else-buffer-lt-MAX_LOG : goal.returns-else-buffer-lt-MAX_LOG
-returns-else-buffer-lt-MAX_LOG c = search (taken, log_taken)
+pub returns : goal.returns
+returns c = log_taken (taken c.in_ok-p.ensures) c.if-buffer-lt-MAX_LOG.false c.write_log.ensures

@@ -1,18 +1,16 @@
 -- `engine::model` meets its contract. Assumes nothing.
-use Rattle.engine.proofs.ProblemLaws.{taken, taken_fits, taken_searchable}
+use Rattle.std.proofs.lemmas.Result.{err_from_is_err_and}
+use Rattle.engine.proofs.ProblemLaws.{taken, not_taken, taken_searchable}
 use Rattle.engine.proofs.AnswerLaws.{model_refused, model_taken}
 use Rattle.engine.proofs.model.Goals as goal
 
-pub of_book-requires : goal.of_book-requires
-of_book-requires c =
-    let t = taken_fits _ _ c.read_at-reading.ensures c.in-Accepted.is in
-    record { variables_le_width = t.0; choices_le_width = t.1.0; rules_le_max_rules = t.1.1.0; moment_value = t.1.1.1 }
-
 pub search_model-requires : goal.search_model-requires
-search_model-requires c = taken_searchable (taken c.read_at-reading.ensures c.in-Accepted.is) c.of_book.ensures
+search_model-requires c = taken_searchable (taken c.in_ok-p.ensures)
 
-pub returns-in-Refused : goal.returns-in-Refused
-returns-in-Refused c = search model_refused
+pub returns-in_err-p : goal.returns-in_err-p
+returns-in_err-p c =
+    let e = err_from_is_err_and c.from_residual.result c.from_residual.ensures.1 in
+    rw (e.1, e.2) (model_refused (not_taken c.in_err-p.ensures))
 
-pub returns-in-Accepted : goal.returns-in-Accepted
-returns-in-Accepted c = search (taken, model_taken)
+pub returns : goal.returns
+returns c = model_taken (taken c.in_ok-p.ensures) c.search_model.ensures

@@ -1,18 +1,16 @@
 -- `engine::next_step` meets its contract. Assumes nothing.
-use Rattle.engine.proofs.ProblemLaws.{taken, taken_fits, taken_steppable}
+use Rattle.std.proofs.lemmas.Result.{err_from_is_err_and}
+use Rattle.engine.proofs.ProblemLaws.{taken, not_taken, taken_steppable}
 use Rattle.engine.proofs.StepLaws.{step_refused, step_taken}
 use Rattle.engine.proofs.next_step.Goals as goal
 
-pub of_book-requires : goal.of_book-requires
-of_book-requires c =
-    let t = taken_fits _ _ c.read_at-reading.ensures c.in-Accepted.is in
-    record { variables_le_width = t.0; choices_le_width = t.1.0; rules_le_max_rules = t.1.1.0; moment_value = t.1.1.1 }
+pub step_from-requires : goal.step_from-requires
+step_from-requires c = taken_steppable (taken c.in_ok-p.ensures)
 
-pub step_of-requires : goal.step_of-requires
-step_of-requires c = search (taken, taken_steppable)
+pub returns-in_err-p : goal.returns-in_err-p
+returns-in_err-p c =
+    let e = err_from_is_err_and c.from_residual.result c.from_residual.ensures.1 in
+    rw (e.1, e.2) (step_refused (not_taken c.in_err-p.ensures))
 
-pub returns-in-Refused : goal.returns-in-Refused
-returns-in-Refused c = search step_refused
-
-pub returns-in-Accepted : goal.returns-in-Accepted
-returns-in-Accepted c = search (taken, step_taken)
+pub returns : goal.returns
+returns c = step_taken (taken c.in_ok-p.ensures) c.step_from.ensures

@@ -1,20 +1,11 @@
 -- `engine::search_model` meets its contract. Assumes nothing.
-use Rattle.std.proofs.Common.{refl, rules}
-use Rattle.first_model.proofs.Laws.Searches.{searched_first, searched_no_first}
-use Rattle.problem.proofs.SearchableLaws.{rules_laws}
+use Rattle.std.proofs.Common.{rules}
+use Rattle.engine.proofs.AnswerLaws.{model_found}
 use Rattle.engine.proofs.search_model.Goals as goal
 
-pub slice_bounds-search-end : goal.slice_bounds-search-end
-slice_bounds-search-end c = search (rules, rules_laws)
-
-pub slice_bounds-search-end-2 : goal.slice_bounds-search-end-2
-slice_bounds-search-end-2 c = search (rules, rules_laws)
-
 pub search-requires : goal.search-requires
-search-requires c = rw c.of_literals-given.ensures (search rules)
+search-requires c = search rules
 
-pub returns-in-Found : goal.returns-in-Found
-returns-in-Found c = record { said = searched_first (rw c.of_literals-given.ensures at c.search.ensures) c.in-Found.is }
-
-pub returns-in-Nothing : goal.returns-in-Nothing
-returns-in-Nothing c = record { said = (refl, refl, searched_no_first (rw c.of_literals-given.ensures at c.search.ensures) c.in-Nothing.is) }
+pub returns : goal.returns
+returns c =
+    model_found c.args.p.now _ (rw (c.formula.ensures.variables, c.formula.ensures.rules) at c.search.ensures) c.at.ensures c.ok_or.ensures.value

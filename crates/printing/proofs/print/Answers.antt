@@ -9,49 +9,37 @@ use Rattle.printing.proofs.print.Goals as goal
 pub returns-then-out-lt-MAX_TEXT : goal.returns-then-out-lt-MAX_TEXT
 returns-then-out-lt-MAX_TEXT c = print_short c.if-out-lt-MAX_TEXT.true
 
-pub shape_of-out-then-input-lt-MOMENT_SIZE : goal.shape_of-out-then-input-lt-MOMENT_SIZE
-shape_of-out-then-input-lt-MOMENT_SIZE c = c.put_refusal.auto.out
-
 pub returns-then-input-lt-MOMENT_SIZE : goal.returns-then-input-lt-MOMENT_SIZE
 returns-then-input-lt-MOMENT_SIZE c = print_no_moment (omega (arith, c.if-input-lt-MOMENT_SIZE.true)) c.if-out-lt-MAX_TEXT.false
-    c.put_refusal.ensures
+    (rw c.at.ensures at c.put_refusal.ensures)
 
-pub slice_bounds-log-end-2 : goal.slice_bounds-log-end-2
-slice_bounds-log-end-2 c = sym (length-replicate {A = ℕ} max_log 0)
-
-pub slice_bounds-log-end-in-Written : goal.slice_bounds-log-end-in-Written
-slice_bounds-log-end-in-Written c =
+pub slice_bounds-log-end-in-Ok : goal.slice_bounds-log-end-in-Ok
+slice_bounds-log-end-in-Ok c =
     let called : BookCalled c.args.input.now c.log.new.buffer c.log.result = record { whole = omega arith; call = rw (tail_is _ 6, c.moment_at.ensures) at c.log.ensures } in
     let long : length c.log.new.buffer ≡ max_log = c.log.auto.buffer ∙ length-replicate {A = ℕ} max_log 0 in
-    omega (arith, log_short called c.in-Written.is long, long)
+    omega (arith, log_short called c.in-Ok.is long, long)
 
 pub slice_bounds-put_log-end : goal.slice_bounds-put_log-end
 slice_bounds-put_log-end c =
     let called : BookCalled c.args.input.now c.log.new.buffer c.log.result = record { whole = omega arith; call = rw (tail_is _ 6, c.moment_at.ensures) at c.log.ensures } in
     let long : length c.log.new.buffer ≡ max_log = c.log.auto.buffer ∙ length-replicate {A = ℕ} max_log 0 in
-    sym (length-take-le _ _ (omega (arith, log_short called c.in-Written.is long, long)))
+    sym (length-take-le _ _ (omega (arith, log_short called c.in-Ok.is long, long)))
 
 pub put_log-requires : goal.put_log-requires
 put_log-requires c =
     let called : BookCalled c.args.input.now c.log.new.buffer c.log.result = record { whole = omega arith; call = rw (tail_is _ 6, c.moment_at.ensures) at c.log.ensures } in
     let long : length c.log.new.buffer ≡ max_log = c.log.auto.buffer ∙ length-replicate {A = ℕ} max_log 0 in
-    log_printable called c.in-Written.is long c.if-out-lt-MAX_TEXT.false
+    log_printable called c.in-Ok.is long c.if-out-lt-MAX_TEXT.false
 
-pub shape_of-out-in-Refused : goal.shape_of-out-in-Refused
-shape_of-out-in-Refused c = c.put_refusal-in-Refused.auto.out
-
-pub returns-in-Refused : goal.returns-in-Refused
-returns-in-Refused c =
+pub returns-in-Err : goal.returns-in-Err
+returns-in-Err c =
     let called : BookCalled c.args.input.now c.log.new.buffer c.log.result = record { whole = omega arith; call = rw (tail_is _ 6, c.moment_at.ensures) at c.log.ensures } in
-    print_refused called c.in-Refused.is c.if-out-lt-MAX_TEXT.false
-    c.put_refusal-in-Refused.ensures
+    print_refused called c.in-Err.is c.if-out-lt-MAX_TEXT.false
+    c.put_refusal-in-Err.ensures
 
-pub shape_of-out-in-Written : goal.shape_of-out-in-Written
-shape_of-out-in-Written c = c.put_log.auto.out
-
-pub returns-in-Written : goal.returns-in-Written
-returns-in-Written c =
+pub returns-in-Ok : goal.returns-in-Ok
+returns-in-Ok c =
     let called : BookCalled c.args.input.now c.log.new.buffer c.log.result = record { whole = omega arith; call = rw (tail_is _ 6, c.moment_at.ensures) at c.log.ensures } in
     let long : length c.log.new.buffer ≡ max_log = c.log.auto.buffer ∙ length-replicate {A = ℕ} max_log 0 in
-    print_log called c.in-Written.is long c.if-out-lt-MAX_TEXT.false
+    print_log called c.in-Ok.is long c.if-out-lt-MAX_TEXT.false
     c.put_log.ensures
