@@ -4,7 +4,7 @@ use crate::steps::Taken;
 use crate::{fillings, steps};
 use samples::build::Draft;
 use samples::reckon::Reckoned;
-use samples::{build, edits, limits};
+use samples::{build, limits};
 
 // The log so far: what is known after it, the steps in it, what they cost, and whether OK has been put.
 #[derive(Clone, Copy)]
@@ -26,95 +26,65 @@ pub fn begun(known: Literals) -> Log {
     }
 }
 
-fn size(n: u8) -> usize {
-    n as usize
-}
-
-fn byte_of(n: u64) -> u8 {
-    (n % 256) as u8
-}
-
-// The literals over variable v + 1, of which there is at most one.
-fn one(d: Draft, set: Literals, v: u8) -> Draft {
-    let variable = std::num::wrapping_add_u8(v, 1);
-    if fillings::has(set.yes, size(v)) {
-        return build::put(d, variable);
-    }
-    if fillings::has(set.no, size(v)) {
-        return build::put(d, build::negated(variable));
+// The literals of a set, rising by variable; of each variable there is at most one.
+pub fn list(mut d: Draft, set: Literals) -> Draft {
+    for v in 1..=limits::VARIABLES {
+        let bit = fillings::bit(v);
+        if set.yes & bit != 0 {
+            d.push(v);
+        } else if set.no & bit != 0 {
+            d.push(build::negated(v));
+        }
     }
     d
 }
 
-// The literals of a set, rising by variable.
-pub fn list(d: Draft, set: Literals) -> Draft {
-    let mut made = d;
-    let variables = limits::VARIABLES;
-    for v in 0..variables {
-        made = one(made, set, v);
-    }
-    made
-}
-
-// A list with the number of its bytes before it, which is put in once they are there.
+// A list with the number of its bytes before it.
 pub fn counted_list(d: Draft, set: Literals) -> Draft {
-    let made = list(build::put(d, 0), set);
-    let place = d.len;
-    let count = std::num::wrapping_sub_usize(made.len, std::num::wrapping_add_usize(place, 1));
-    edits::changed(made, place, (count % 256) as u8)
-}
-
-// The two low bytes of a number, the high one first.
-fn pair(d: Draft, n: u64) -> Draft {
-    build::put2(d, byte_of(n / 256), byte_of(n))
+    let variables = fillings::first(usize::from(limits::VARIABLES));
+    let count = ((set.yes | set.no) & variables).count_ones();
+    list(build::put(d, (count % 256) as u8), set)
 }
 
 // The record ST of a step.
 fn step_record(d: Draft, step: Taken) -> Draft {
     let d = list(build::put2(d, b'S', b'T'), step.goal);
     let d = counted_list(counted_list(d, step.reasons), step.new);
-    pair(d, step.cost)
+    build::pair(d, (step.cost % 65536) as u16)
 }
 
 // The record OK.
 fn ok_record(d: Draft, steps: u64, total: u64) -> Draft {
-    let d = build::put(build::put2(d, b'O', b'K'), byte_of(steps));
-    pair(pair(d, total / 65536), total)
+    let d = build::bytes(d, &[b'O', b'K', (steps % 256) as u8]);
+    build::bytes(d, &((total % 4294967296) as u32).to_be_bytes())
 }
 
 // The log with one record more: the step's, or OK where there is none.
-pub fn onward(log: Log, step: Taken) -> Log {
-    let written = log.written;
-    let known = log.known;
-    if !step.found {
-        return Log {
-            written: ok_record(written, log.steps, log.total),
-            known,
-            steps: log.steps,
-            total: log.total,
+pub fn onward(log: Log, step: Option<Taken>) -> Log {
+    match step {
+        Some(step) => Log {
+            written: step_record(log.written, step),
+            known: fillings::joined(log.known, step.new),
+            steps: log.steps.wrapping_add(1),
+            total: log.total.wrapping_add(step.cost),
+            ended: false,
+        },
+        None => Log {
+            written: ok_record(log.written, log.steps, log.total),
             ended: true,
-        };
-    }
-    Log {
-        written: step_record(written, step),
-        known: fillings::joined(known, step.new),
-        steps: std::num::wrapping_add_u64(log.steps, 1),
-        total: std::num::wrapping_add_u64(log.total, step.cost),
-        ended: false,
+            ..log
+        },
     }
 }
 
 // The log of a book that has a model: at most a step for each choice, since each makes one known, and OK.
-pub fn whole(all: &[u64], b: Reckoned) -> Log {
-    let costs = b.costs;
+pub fn whole(all: &[u64], b: &Reckoned) -> Log {
     let choices = fillings::first(b.choices);
-    let facts = fillings::facts(b);
-    let consequence = fillings::forced(all, facts, choices);
-    let mut log = begun(facts);
-    let records = limits::RECORDS;
-    for i in 0..records {
+    let consequence = fillings::forced(all, b.facts, choices);
+    let mut log = begun(b.facts);
+    for _ in 0..limits::RECORDS {
         if !log.ended {
-            let step = steps::next(all, costs, choices, log.known, consequence);
+            let step = steps::next(all, &b.costs, choices, log.known, consequence);
             log = onward(log, step);
         }
     }

@@ -1,84 +1,57 @@
 // The literals of one clause, sorted as they come. A literal is a byte; those from 128 on say no.
-use samples::build;
+use arrayvec::ArrayVec;
+use samples::{build, limits};
 
-// The different literals, in rising order of their variables, at the start of a room for all of them; whether one of them
-// and its opposite came; and whether one came twice, or after one of a later variable.
-#[derive(Clone, Copy)]
+// Room for both literals over each variable.
+const ROOM: usize = 2 * limits::VARIABLES as usize;
+
+// The different literals, in rising order of their variables; whether one of them and its opposite came; and whether one
+// came twice, or after one of a later variable.
+#[derive(Drop)]
 pub struct Clause {
-    pub literals: [u8; Clause::ROOM],
-    pub count: usize,
+    pub literals: ArrayVec<u8, ROOM>,
     pub opposed: bool,
     pub repeated: bool,
     pub moved: bool,
 }
 
 impl Clause {
-    pub const ROOM: usize = 64;
-}
-
-pub fn none() -> Clause {
-    Clause {
-        literals: [0; Clause::ROOM],
-        count: 0,
-        opposed: false,
-        repeated: false,
-        moved: false,
-    }
-}
-
-pub fn variable(literal: u8) -> u8 {
-    if literal < 128 {
-        literal
-    } else {
-        build::negated(literal)
-    }
-}
-
-// The literal at a place, or 0.
-pub fn at(c: Clause, i: usize) -> u8 {
-    if i < Clause::ROOM { c.literals[i] } else { 0 }
-}
-
-fn changed(mut c: Clause, i: usize, literal: u8) -> Clause {
-    if i < Clause::ROOM {
-        c.literals[i] = literal;
-    }
-    c
-}
-
-fn holds(c: Clause, literal: u8) -> bool {
-    let count = c.count;
-    for i in 0..count {
-        if at(c, i) == literal {
-            return true;
+    pub fn empty() -> Clause {
+        Clause {
+            literals: ArrayVec::new(),
+            opposed: false,
+            repeated: false,
+            moved: false,
         }
     }
-    false
-}
 
-// A literal put in: it takes the place of the first of a later variable, that one the next place, and so on.
-fn put_in(c: Clause, literal: u8) -> Clause {
-    let count = c.count;
-    let mut made = c;
-    let mut carried = literal;
-    for i in 0..count {
-        let other = at(made, i);
-        if variable(carried) < variable(other) {
-            made = changed(made, i, carried);
-            carried = other;
+    // The clause of these literals.
+    pub fn of(literals: &[u8]) -> Clause {
+        let mut c = Clause::empty();
+        for &literal in literals {
+            c.add(literal);
         }
+        c
     }
-    made.moved = c.moved || carried != literal;
-    made.count = std::num::wrapping_add_usize(count, 1);
-    changed(made, count, carried)
-}
 
-// One literal more. A repeat is not put in.
-pub fn with(mut c: Clause, literal: u8) -> Clause {
-    if holds(c, literal) {
-        c.repeated = true;
-        return c;
+    // One literal more. A repeat is not put in.
+    pub fn add(&mut self, literal: u8) {
+        if self.literals.contains(&literal) {
+            self.repeated = true;
+            return;
+        }
+        self.opposed = self.opposed || self.literals.contains(&build::negated(literal));
+        self.put_in(literal);
     }
-    c.opposed = c.opposed || holds(c, build::negated(literal));
-    put_in(c, literal)
+
+    // A literal put in before the first of a later variable.
+    fn put_in(&mut self, literal: u8) {
+        let later = self
+            .literals
+            .iter()
+            .position(|other| build::variable(literal) < build::variable(*other));
+        let place = later.unwrap_or(self.literals.len());
+        self.moved = self.moved || later.is_some();
+        let _ = self.literals.try_insert(place, literal);
+    }
 }

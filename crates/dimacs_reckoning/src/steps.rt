@@ -2,9 +2,9 @@
 // large stays so with more digits.
 ghost use Rattle.std.specs.Prelude.{◌<◌};
 
-use crate::machine;
-use crate::machine::Machine;
-use samples::limits;
+use crate::machine::{Machine, State};
+use crate::reckon::Refused;
+use samples::{build, limits};
 
 // The most that V and R may be.
 const VARIABLES: u64 = limits::VARIABLES as u64;
@@ -12,183 +12,177 @@ const VARIABLES: u64 = limits::VARIABLES as u64;
 const CLAUSES: u64 = limits::RULES as u64;
 
 fn is_blank(b: u8) -> bool {
-    match b {
-        b' ' | b'\t' | b'\r' => true,
-        _ => false,
-    }
+    matches!(b, b' ' | b'\t' | b'\r')
 }
 
 fn is_gap(b: u8) -> bool {
-    if b == b'\n' { true } else { is_blank(b) }
-}
-
-fn is_digit(b: u8) -> bool {
-    match b {
-        b'0'..=b'9' => true,
-        _ => false,
-    }
+    b == b'\n' || is_blank(b)
 }
 
 // The value of a digit.
 fn digit(b: u8) -> u64
     ensures { result < 256 }
 {
-    std::num::wrapping_sub_u8(b, b'0') as u64
+    u64::from(b.wrapping_sub(b'0'))
 }
 
-// One of two states.
-fn either(so: bool, state: u8, other: u8) -> u8 {
-    if so { state } else { other }
+// The state that a byte leads to where it may stand.
+fn state_if(may_stand: bool, state: State) -> Option<State> {
+    if may_stand { Some(state) } else { None }
 }
 
-// The state after a byte of the comments, of `p`, of `cnf` or of the blanks behind them.
-fn word_state(state: u8, b: u8) -> u8 {
-    let wrong = machine::WRONG;
+// The state after a byte of the comments, of `p`, of `cnf` or of the blanks behind them, where the byte may stand.
+fn word_state(state: State, b: u8) -> Option<State> {
     match state {
-        machine::LINE => match b {
-            b'c' => machine::COMMENT,
-            b'p' => machine::AFTER_P,
-            _ => wrong,
+        State::Line => match b {
+            b'c' => Some(State::Comment),
+            b'p' => Some(State::AfterP),
+            _ => None,
         },
-        machine::COMMENT => either(b == b'\n', machine::LINE, machine::COMMENT),
-        machine::AFTER_P => either(is_blank(b), machine::BEFORE_CNF, wrong),
-        machine::BEFORE_CNF => {
-            let blanks = either(is_blank(b), machine::BEFORE_CNF, wrong);
-            either(b == b'c', machine::AFTER_C, blanks)
-        }
-        machine::AFTER_C => either(b == b'n', machine::AFTER_N, wrong),
-        machine::AFTER_N => either(b == b'f', machine::AFTER_F, wrong),
-        _ => either(is_blank(b), machine::BEFORE_V, wrong),
+        State::Comment if b == b'\n' => Some(State::Line),
+        State::Comment => Some(State::Comment),
+        State::AfterP => state_if(is_blank(b), State::BeforeCnf),
+        State::BeforeCnf if b == b'c' => Some(State::AfterC),
+        State::BeforeCnf => state_if(is_blank(b), State::BeforeCnf),
+        State::AfterC => state_if(b == b'n', State::AfterN),
+        State::AfterN => state_if(b == b'f', State::AfterF),
+        _ => state_if(is_blank(b), State::BeforeV),
     }
 }
 
 // A byte that leads to a state, or may not stand there.
-fn moved(mut m: Machine, state: u8) -> Machine {
-    if state == machine::WRONG {
-        return machine::refused(m, 12, m.at);
+fn move_to(m: &mut Machine, state: Option<State>) -> Result<(), Refused> {
+    match state {
+        Some(state) => {
+            m.state = state;
+            Ok(())
+        }
+        None => Err(m.refused(12, m.at)),
     }
-    m.state = state;
-    m
+}
+
+// The literal in hand, or the closing 0, as a byte.
+fn keep_number(m: &mut Machine) {
+    let n = (m.value % 256) as u8;
+    let literal = if m.minus { build::negated(n) } else { n };
+    if let Some(last) = m.numbers.last_mut() {
+        *last = literal;
+    }
 }
 
 // The number in hand has a digit more: it is what it says so far, or is too large.
-fn counted(mut m: Machine) -> Machine {
-    let state = m.state;
-    match state {
-        machine::IN_V => {
+fn count(m: &mut Machine) -> Result<(), Refused> {
+    match m.state {
+        State::InV => {
             m.variables = m.value;
             if m.value > VARIABLES {
-                return machine::refused(m, 13, m.begin);
+                return Err(m.refused(13, m.begin));
             }
         }
-        machine::IN_R => {
+        State::InR => {
             m.left = m.value;
             if m.value > CLAUSES {
-                return machine::refused(m, 13, m.begin);
+                return Err(m.refused(13, m.begin));
             }
         }
         _ => {
+            keep_number(m);
             if m.value > m.variables {
-                return machine::refused(m, 12, m.begin);
+                return Err(m.refused(12, m.begin));
             }
         }
     }
-    m
+    Ok(())
 }
 
 // The first digit of a number, in a state that is inside of it.
-fn number_begins(mut m: Machine, b: u8, state: u8) -> Machine {
+fn begin_number(m: &mut Machine, b: u8, state: State) -> Result<(), Refused> {
     m.state = state;
     m.value = digit(b);
-    counted(m)
+    count(m)
 }
 
 // A byte before V or before R.
-fn before_number(mut m: Machine, b: u8, inside: u8) -> Machine {
+fn before_number(m: &mut Machine, b: u8, inside: State) -> Result<(), Refused> {
     if is_blank(b) {
-        return m;
+        return Ok(());
     }
-    if !is_digit(b) {
-        return machine::refused(m, 12, m.at);
+    if !b.is_ascii_digit() {
+        return Err(m.refused(12, m.at));
     }
     m.begin = m.at;
-    number_begins(m, b, inside)
+    begin_number(m, b, inside)
 }
 
 // A byte after a digit: one digit more, which no 0 has, or what parts the number from the next and leads to a state.
-fn in_number(mut m: Machine, b: u8, parts: bool, state: u8) -> Machine {
-    if is_digit(b) && m.value != 0 {
+fn in_number(m: &mut Machine, b: u8, next: Option<State>) -> Result<(), Refused> {
+    if b.is_ascii_digit() && m.value != 0 {
         m.value = m.value % 1000 * 10 + digit(b);
-        return counted(m);
+        return count(m);
     }
-    moved(m, either(parts, state, machine::WRONG))
+    move_to(m, next)
 }
 
 // The first digit of a literal, with a minus before it or without.
-fn literal_begins(mut m: Machine, b: u8, minus: bool) -> Machine {
+fn begin_literal(m: &mut Machine, b: u8, minus: bool) -> Result<(), Refused> {
     m.minus = minus;
-    m.begun = std::num::wrapping_add_usize(m.begun, 1);
-    number_begins(m, b, machine::IN_LITERAL)
+    let _ = m.numbers.try_push(0);
+    begin_number(m, b, State::InLiteral)
 }
 
 // The 0 that closes a clause.
-fn clause_closes(mut m: Machine) -> Machine {
+fn close_clause(m: &mut Machine) {
     m.minus = false;
     m.value = 0;
-    m.begun = std::num::wrapping_add_usize(m.begun, 1);
-    m.left = std::num::wrapping_sub_u64(m.left, 1);
-    m.state = machine::CLOSED;
-    m
+    let _ = m.numbers.try_push(0);
+    m.left = m.left.wrapping_sub(1);
+    m.state = State::Closed;
 }
 
 // The first byte of a literal or of the closing 0.
-fn number_opens(mut m: Machine, b: u8) -> Machine {
+fn open_number(m: &mut Machine, b: u8) -> Result<(), Refused> {
     m.begin = m.at;
-    if !m.is_open {
-        m.is_open = true;
-        m.clause_begin = m.at;
-    }
+    m.clause_begin = m.clause_begin.or(Some(m.at));
     match b {
-        b'-' => moved(m, machine::MINUS),
-        b'0' => clause_closes(m),
-        b'1'..=b'9' => literal_begins(m, b, false),
-        _ => machine::refused(m, 12, m.at),
+        b'-' => m.state = State::Minus,
+        b'0' => close_clause(m),
+        b'1'..=b'9' => begin_literal(m, b, false)?,
+        _ => return Err(m.refused(12, m.at)),
     }
+    Ok(())
 }
 
 // A byte after a blank or a line end.
-fn in_gap(m: Machine, b: u8) -> Machine {
+fn in_gap(m: &mut Machine, b: u8) -> Result<(), Refused> {
     if is_gap(b) {
-        return m;
+        return Ok(());
     }
     if m.left == 0 {
-        return machine::refused(m, 12, m.at);
+        return Err(m.refused(12, m.at));
     }
-    number_opens(m, b)
+    open_number(m, b)
 }
 
 // A byte after a minus.
-fn after_minus(m: Machine, b: u8) -> Machine {
+fn after_minus(m: &mut Machine, b: u8) -> Result<(), Refused> {
     match b {
-        b'1'..=b'9' => literal_begins(m, b, true),
-        _ => machine::refused(m, 12, m.at),
+        b'1'..=b'9' => begin_literal(m, b, true),
+        _ => Err(m.refused(12, m.at)),
     }
 }
 
 // One byte.
-pub fn step(m: Machine, b: u8) -> Machine {
-    let state = m.state;
-    let mut after = match state {
-        machine::BEFORE_V => before_number(m, b, machine::IN_V),
-        machine::IN_V => in_number(m, b, is_blank(b), machine::BEFORE_R),
-        machine::BEFORE_R => before_number(m, b, machine::IN_R),
-        machine::IN_R => in_number(m, b, is_gap(b), machine::GAP),
-        machine::GAP => in_gap(m, b),
-        machine::MINUS => after_minus(m, b),
-        machine::IN_LITERAL => in_number(m, b, is_gap(b), machine::GAP),
-        machine::CLOSED => moved(m, either(is_gap(b), machine::GAP, machine::WRONG)),
-        _ => moved(m, word_state(state, b)),
-    };
-    after.at = std::num::wrapping_add_usize(m.at, 1);
-    after
+pub fn step(m: &mut Machine, b: u8) -> Result<(), Refused> {
+    match m.state {
+        State::BeforeV => before_number(m, b, State::InV)?,
+        State::InV => in_number(m, b, state_if(is_blank(b), State::BeforeR))?,
+        State::BeforeR => before_number(m, b, State::InR)?,
+        State::InR | State::InLiteral => in_number(m, b, state_if(is_gap(b), State::Gap))?,
+        State::Gap => in_gap(m, b)?,
+        State::Minus => after_minus(m, b)?,
+        State::Closed => move_to(m, state_if(is_gap(b), State::Gap))?,
+        _ => move_to(m, word_state(m.state, b))?,
+    }
+    m.at = m.at.wrapping_add(1);
+    Ok(())
 }

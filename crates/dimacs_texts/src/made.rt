@@ -5,7 +5,7 @@ use samples::{build, random};
 
 // What a file is like: how many variables and clauses, how many literals a clause has, twice as many in some, whether clauses
 // of no literals are among them; and a filling that most literals are true in, so that not all long clauses are dropped.
-#[derive(Clone, Copy)]
+#[derive(Clone, Copy, Debug, PartialEq, Eq)]
 pub struct Shape {
     pub variables: u8,
     pub clauses: u8,
@@ -19,8 +19,8 @@ pub fn drawn_shape(seed: u64, most_variables: u8, most_clauses: u8, literals: u8
     let a = random::next(seed);
     let b = random::next(a);
     Shape {
-        variables: random::byte_below(a, std::num::wrapping_add_u8(most_variables, 1)),
-        clauses: random::byte_below(b, std::num::wrapping_add_u8(most_clauses, 1)),
+        variables: random::byte_below(a, most_variables.wrapping_add(1)),
+        clauses: random::byte_below(b, most_clauses.wrapping_add(1)),
         literals,
         has_empty: random::byte(b >> 8) < 64,
         filling: random::next(b),
@@ -59,8 +59,7 @@ fn parted(d: Draft, may_end: bool) -> Draft {
     } else {
         0
     };
-    let count = std::num::wrapping_add_u8(more, 1);
-    for i in 0..count {
+    for _ in 0..=more {
         made = drawn(made);
         let b = if may_end {
             gap(made.seed)
@@ -94,8 +93,7 @@ fn comment_count(seed: u64) -> u8 {
 
 fn comments(d: Draft) -> Draft {
     let mut made = drawn(d);
-    let count = comment_count(made.seed);
-    for i in 0..count {
+    for _ in 0..comment_count(made.seed) {
         made = comment(made);
     }
     made
@@ -111,20 +109,17 @@ fn head(d: Draft, like: Shape) -> Draft {
 
 // A literal over any variable, in one place out of eight not true in the filling.
 fn any_literal(seed: u64, like: Shape) -> u8 {
-    let v = std::num::wrapping_add_u8(random::byte_below(seed, like.variables), 1);
+    let v = random::byte_below(seed, like.variables).wrapping_add(1);
     let yes = (like.filling >> (v % 64)) % 2 == 1;
     let so = random::byte(seed >> 8) >= 32;
     if yes == so { v } else { build::negated(v) }
 }
 
-// A literal: in one place out of ten the one before it, in one out of thirty its opposite.
-fn literal(seed: u64, like: Shape, last: u8) -> u8 {
-    if last == 0 {
-        return any_literal(seed, like);
-    }
-    match random::byte(seed >> 24) {
-        0..=24 => last,
-        25..=32 => build::negated(last),
+// A literal: in one place out of ten the one before it, where there is one, in one out of thirty its opposite.
+fn literal(seed: u64, like: Shape, last: Option<u8>) -> u8 {
+    match (last, random::byte(seed >> 24)) {
+        (Some(last), 0..=24) => last,
+        (Some(last), 25..=32) => build::negated(last),
         _ => any_literal(seed, like),
     }
 }
@@ -134,29 +129,24 @@ fn count_of(like: Shape, seed: u64) -> u8 {
     if like.variables == 0 {
         return 0;
     }
-    let twice = std::num::wrapping_add_u8(like.literals, like.literals);
     let most = if random::byte(seed >> 8) < 64 {
-        twice
+        like.literals.wrapping_mul(2)
     } else {
         like.literals
     };
-    let count = random::byte_below(seed, std::num::wrapping_add_u8(most, 1));
-    if count == 0 && !like.has_empty {
-        1
-    } else {
-        count
-    }
+    let count = random::byte_below(seed, most.wrapping_add(1));
+    if like.has_empty { count } else { count.max(1) }
 }
 
 // A clause: its literals, each with what parts it from the number before, and its 0.
 fn clause(d: Draft, like: Shape) -> Draft {
     let mut made = drawn(d);
-    let mut last = 0;
-    let count = count_of(like, made.seed);
-    for i in 0..count {
+    let mut last = None;
+    for _ in 0..count_of(like, made.seed) {
         made = parted(drawn(made), true);
-        last = literal(made.seed, like, last);
-        made = numbers::literal(made, last);
+        let next = literal(made.seed, like, last);
+        made = numbers::literal(made, next);
+        last = Some(next);
     }
     build::put(parted(made, true), b'0')
 }
@@ -165,9 +155,8 @@ fn clause(d: Draft, like: Shape) -> Draft {
 pub fn file(seed: u64, like: Shape) -> Draft {
     let mut d = build::empty();
     d.seed = seed;
-    let clauses = like.clauses;
     let mut made = head(d, like);
-    for i in 0..clauses {
+    for _ in 0..like.clauses {
         made = clause(made, like);
     }
     let ended = drawn(made);

@@ -30,8 +30,8 @@ pub fn literal(d: Draft, l: u8) -> Draft {
 // One digit so many times.
 pub fn digits(d: Draft, b: u8, count: u8) -> Draft {
     let mut made = d;
-    for i in 0..count {
-        made = build::put(made, b);
+    for _ in 0..count {
+        made.push(b);
     }
     made
 }

@@ -2,13 +2,11 @@
 // share.
 #![tactic(auto)]
 
-pub mod asked;
 pub mod asked_log;
 pub mod compare;
-pub mod counts;
 pub mod logged;
 pub mod models_found;
+pub mod question;
 pub mod report;
-mod report_pairs;
 pub mod tally;
 pub mod walks;

@@ -2,8 +2,8 @@
 // being true exactly where two other literals are. So of all fillings 2^7 obey the rules, one for each of the inputs.
 // A helper's gate has two inputs, and the gate of a choice has a choice before it and a helper, so that what follows from
 // the inputs takes many steps and some case splits.
-use crate::made;
 use crate::made::Shape;
+use crate::{Kind, made};
 use samples::build::Draft;
 use samples::{build, random};
 
@@ -16,9 +16,8 @@ fn opposite(literal: u8) -> u8 {
 
 // A number from `first` to `last`, drawn from a state.
 fn between(seed: u64, first: u8, last: u8) -> u8 {
-    let more = std::num::wrapping_sub_u8(last, first);
-    let drawn = random::byte_below(seed, std::num::wrapping_add_u8(more, 1));
-    std::num::wrapping_add_u8(first, drawn)
+    let more = last.wrapping_sub(first);
+    first.wrapping_add(random::byte_below(seed, more.wrapping_add(1)))
 }
 
 // The rules by which `out` is true exactly where `a` and `b` are, its variable being the last.
@@ -46,25 +45,25 @@ struct Gate {
 
 // A gate over three variables, its two literals drawn from a state, each of them three times out of four true in the
 // planted filling.
-fn drawn(filling: u64, seed: u64, low: u8, high: u8, out: u8) -> Gate {
+fn drawn(like: Shape, seed: u64, low: u8, high: u8, out: u8) -> Gate {
     let next = random::next(seed);
     let first = random::byte(next) < 192;
     let second = random::byte(next >> 8) < 192;
     Gate {
-        low: made::literal_in(filling, low, first),
-        high: made::literal_in(filling, high, second),
-        out: made::literal_in(filling, out, first && second),
+        low: made::literal(like, next, low, first),
+        high: made::literal(like, next, high, second),
+        out: made::literal(like, next, out, first && second),
         seed: next,
     }
 }
 
 // A gate for a helper.
-fn helper(d: Draft, filling: u64, v: u8) -> Draft {
+fn helper(d: Draft, like: Shape, v: u8) -> Draft {
     let a = random::next(d.seed);
     let b = random::next(a);
     let low = between(a, 1, INPUTS - 1);
-    let high = between(b, std::num::wrapping_add_u8(low, 1), INPUTS);
-    let gate = drawn(filling, b, low, high, v);
+    let high = between(b, low.wrapping_add(1), INPUTS);
+    let gate = drawn(like, b, low, high, v);
     let mut made = helper_gate(d, gate.low, gate.high, gate.out);
     made.seed = gate.seed;
     made
@@ -74,13 +73,9 @@ fn helper(d: Draft, filling: u64, v: u8) -> Draft {
 fn choice(d: Draft, like: Shape, v: u8) -> Draft {
     let a = random::next(d.seed);
     let b = random::next(a);
-    let low = between(a, 1, std::num::wrapping_sub_u8(v, 1));
-    let high = between(
-        b,
-        std::num::wrapping_add_u8(like.choices, 1),
-        like.variables,
-    );
-    let gate = drawn(like.filling, b, low, high, v);
+    let low = between(a, 1, v.wrapping_sub(1));
+    let high = between(b, like.choices.wrapping_add(1), like.variables);
+    let gate = drawn(like, b, low, high, v);
     let mut made = choice_gate(d, gate.low, gate.out, gate.high);
     made.seed = gate.seed;
     made
@@ -89,39 +84,35 @@ fn choice(d: Draft, like: Shape, v: u8) -> Draft {
 // A gate for each choice that is no input and for each helper.
 fn gates(d: Draft, like: Shape) -> Draft {
     let mut made = d;
-    let variables = like.variables;
-    for i in INPUTS..variables {
-        let v = std::num::wrapping_add_u8(i, 1);
+    for v in INPUTS + 1..=like.variables {
         made = if v <= like.choices {
             choice(made, like, v)
         } else {
-            helper(made, like.filling, v)
+            helper(made, like, v)
         };
     }
     made
 }
 
 // What a circuit is like: up to three variables fewer, so many choices, and a fact for each input.
-fn shape(seed: u64, most_variables: u8, choices: u8, cost: u16) -> Shape {
+fn shape(seed: u64, kind: Kind) -> Shape {
     let next = random::next(seed);
-    let fewer = random::byte_below(next, 4);
-    let variables = std::num::wrapping_sub_u8(most_variables, fewer);
-    let gates = std::num::wrapping_sub_u8(variables, INPUTS);
-    let rules = std::num::wrapping_add_u8(gates, std::num::wrapping_add_u8(gates, gates));
-    let mut like = made::wide_shape(variables, choices, rules);
-    like.cost = cost;
-    like.givens = INPUTS;
-    like.every = 1;
-    like.planted = true;
-    like.filling = random::next(next);
-    like
+    let variables = kind.variables.wrapping_sub(random::byte_below(next, 4));
+    let gates = variables.wrapping_sub(INPUTS);
+    Shape {
+        cost: kind.cost,
+        givens: INPUTS,
+        every: 1,
+        planted: Some(random::next(next)),
+        ..made::wide_shape(variables, kind.choices, gates.wrapping_mul(3))
+    }
 }
 
 // A book of three rules for each gate, made up from a seed.
-pub fn made(seed: u64, most_variables: u8, choices: u8, cost: u16) -> Draft {
-    let like = shape(seed, most_variables, choices, cost);
-    let mut d = build::header(build::empty(), like.variables, choices, like.rules);
+pub fn made(seed: u64, kind: Kind) -> Draft {
+    let like = shape(seed, kind);
+    let mut d = build::header(build::empty(), like.variables, like.choices, like.rules);
     d.seed = random::next(seed);
-    let d = made::costs(d, choices, cost);
+    let d = made::costs(d, like.choices, like.cost);
     build::end(made::facts(gates(d, like), like))
 }

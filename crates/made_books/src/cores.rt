@@ -2,7 +2,6 @@
 // of their fillings is tried, and the rules over the choices leave many of those open. A search that goes back one try at
 // a time refutes the core again for each filling of the choices; one that jumps back must not jump over a choice that
 // matters.
-use crate::drawn::Rule;
 use crate::{drawn, made};
 use samples::build::Draft;
 use samples::{build, random};
@@ -21,27 +20,26 @@ pub fn open_rule(d: Draft) -> Draft {
     let low = made::signed(a >> 8, made::one_of(a, 1, 3));
     let middle = made::signed(b >> 8, made::one_of(b, 4, 2));
     let high = made::signed(c >> 8, made::one_of(c, 6, 2));
-    let mut made = build::put(build::put2(build::rule(d, 3), low, middle), high);
+    let mut made = build::bytes(build::rule(d, 3), &[low, middle, high]);
     made.seed = c;
     made
 }
 
 fn open_rules(d: Draft) -> Draft {
-    drawn::rules(d, Rule::Open, OPEN_RULES)
+    drawn::rules(d, OPEN_RULES, open_rule)
 }
 
 // A rule for each filling of the helpers 8, 9 and 10, which that filling breaks where `switch` is yes.
 fn core(d: Draft, switch: u8) -> Draft {
-    let rules = CORE_RULES;
     let mut made = d;
-    for i in 0..rules {
-        let n = i as u64;
-        made = build::put2(
-            build::rule(made, 4),
+    for n in 0..u64::from(CORE_RULES) {
+        let literals = [
             build::negated(switch),
             made::signed(n, 8),
-        );
-        made = build::put2(made, made::signed(n / 2, 9), made::signed(n / 4, 10));
+            made::signed(n / 2, 9),
+            made::signed(n / 4, 10),
+        ];
+        made = build::bytes(build::rule(made, 4), &literals);
     }
     made
 }
@@ -74,9 +72,12 @@ fn facts(d: Draft) -> Draft {
 
 // A book of ten variables, made up from a seed.
 pub fn made(seed: u64) -> Draft {
-    let count = std::num::wrapping_add_u8(OPEN_RULES, CORE_RULES);
-    let variables = std::num::wrapping_add_u8(CHOICES, 3);
-    let mut d = build::header(build::empty(), variables, CHOICES, count);
+    let mut d = build::header(
+        build::empty(),
+        CHOICES + 3,
+        CHOICES,
+        OPEN_RULES + CORE_RULES,
+    );
     d.seed = random::next(seed);
     let d = build::costs(d, CHOICES);
     build::end(facts(rules(d, made::one_of(seed, 1, CHOICES))))

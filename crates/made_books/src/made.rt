@@ -15,14 +15,13 @@ pub struct Shape {
     // Of the first choices, so many, one out of `every` has a fact.
     pub givens: u8,
     pub every: u8,
-    // Whether the filling is a model of the book, with the last literal of each rule true in it and no other.
-    pub planted: bool,
-    pub filling: u64,
+    // A filling that is to be a model of the book, with the last literal of each rule true in it and no other.
+    pub planted: Option<u64>,
 }
 
 // A number from `first` on, one of `count`, drawn from a state.
 pub fn one_of(seed: u64, first: u8, count: u8) -> u8 {
-    std::num::wrapping_add_u8(first, random::byte_below(seed, count))
+    first.wrapping_add(random::byte_below(seed, count))
 }
 
 // The literal over `v`: yes where a number is odd.
@@ -31,45 +30,34 @@ pub fn signed(n: u64, v: u8) -> u8 {
 }
 
 // The literal over `v` that is true in a filling, or the other one.
-pub fn literal_in(filling: u64, v: u8, so: bool) -> u8 {
+fn literal_in(filling: u64, v: u8, so: bool) -> u8 {
     let yes = (filling >> (v % 64)) % 2 == 1;
     if yes == so { v } else { build::negated(v) }
 }
 
 // A literal over `v`: any, or, where a filling is planted, one that is true in it or not.
-fn literal(like: Shape, seed: u64, v: u8, so: bool) -> u8 {
-    if like.planted {
-        return literal_in(like.filling, v, so);
-    }
-    if random::byte_below(seed, 2) == 0 {
-        v
-    } else {
-        build::negated(v)
+pub fn literal(like: Shape, seed: u64, v: u8, so: bool) -> u8 {
+    match like.planted {
+        Some(filling) => literal_in(filling, v, so),
+        None if random::byte_below(seed, 2) == 0 => v,
+        None => build::negated(v),
     }
 }
 
 // A cost from 1 to `most`, each end of it often.
 fn cost_up_to(seed: u64, most: u16) -> u16 {
-    let n = random::pair_below(seed, std::num::wrapping_add_u16(most, most / 5 + 2));
-    if n == 0 {
-        return 1;
-    }
-    if n > most { most } else { n }
+    let n = random::pair_below(seed, most.wrapping_add(most / 5 + 2));
+    if n == 0 { 1 } else { n.min(most) }
 }
 
 // Costs of so many choices, from 1 to `most`.
 pub fn costs(d: Draft, choices: u8, most: u16) -> Draft {
     let mut made = d;
-    for i in 0..choices {
+    for choice in 1..=choices {
         let a = random::next(made.seed);
         let b = random::next(a);
         made.seed = b;
-        made = build::cost(
-            made,
-            std::num::wrapping_add_u8(i, 1),
-            cost_up_to(a, most),
-            cost_up_to(b, most),
-        );
+        made = build::cost(made, choice, cost_up_to(a, most), cost_up_to(b, most));
     }
     made
 }
@@ -83,32 +71,25 @@ fn rule(d: Draft, like: Shape, count: u8) -> Draft {
         let a = random::next(made.seed);
         let b = random::next(a);
         made.seed = b;
-        if random::byte_below(a, std::num::wrapping_sub_u8(variables, i)) < left {
-            let v = std::num::wrapping_add_u8(i, 1);
-            made = build::put(made, literal(like, b, v, left == 1));
-            left = std::num::wrapping_sub_u8(left, 1);
+        if random::byte_below(a, variables - i) < left {
+            made = build::put(made, literal(like, b, i + 1, left == 1));
+            left -= 1;
         }
     }
     made
 }
 
-fn least(a: u8, b: u8) -> u8 {
-    if a < b { a } else { b }
-}
-
 // How many literals a rule has: no more than there are variables.
 fn count_of(like: Shape, seed: u64) -> u8 {
-    let most = least(like.variables, like.literals);
-    let fewest = least(like.variables, like.fewest);
-    let more = std::num::wrapping_sub_u8(most, fewest);
-    let drawn = random::byte_below(seed, std::num::wrapping_add_u8(more, 1));
-    std::num::wrapping_add_u8(fewest, drawn)
+    let most = like.variables.min(like.literals);
+    let fewest = like.variables.min(like.fewest);
+    let more = most.wrapping_sub(fewest);
+    one_of(seed, fewest, more.wrapping_add(1))
 }
 
 fn rules(d: Draft, like: Shape) -> Draft {
-    let rules = like.rules;
     let mut made = d;
-    for i in 0..rules {
+    for _ in 0..like.rules {
         let a = random::next(made.seed);
         made.seed = a;
         made = rule(made, like, count_of(like, a));
@@ -118,14 +99,12 @@ fn rules(d: Draft, like: Shape) -> Draft {
 
 // Facts over some of the choices.
 pub fn facts(d: Draft, like: Shape) -> Draft {
-    let givens = like.givens;
     let mut made = d;
-    for i in 0..givens {
+    for v in 1..=like.givens {
         let a = random::next(made.seed);
         let b = random::next(a);
         made.seed = b;
         if random::byte_below(a, like.every) == 0 {
-            let v = std::num::wrapping_add_u8(i, 1);
             made = build::fact(made, literal(like, b, v, true));
         }
     }
@@ -143,20 +122,19 @@ pub fn wide_shape(variables: u8, choices: u8, rules: u8) -> Shape {
         cost: limits::COST,
         givens: choices,
         every: 3,
-        planted: false,
-        filling: 0,
+        planted: None,
     }
 }
 
 // Books at the most variables, choices and rules, with a planted model.
 pub fn largest_shape(seed: u64) -> Shape {
-    let mut like = wide_shape(limits::VARIABLES, limits::CHOICES, limits::RULES);
-    like.fewest = 2;
-    like.literals = 4;
-    like.every = 4;
-    like.planted = true;
-    like.filling = random::next(seed);
-    like
+    Shape {
+        fewest: 2,
+        literals: 4,
+        every: 4,
+        planted: Some(random::next(seed)),
+        ..wide_shape(limits::VARIABLES, limits::CHOICES, limits::RULES)
+    }
 }
 
 // A good book of this shape, made up from a seed.
@@ -173,10 +151,12 @@ pub fn any_book(seed: u64, most: u8) -> Draft {
     let a = random::next(seed);
     let b = random::next(a);
     let c = random::next(b);
-    let variables = random::byte_below(a, std::num::wrapping_add_u8(most, 1));
-    let most_choices = least(variables, limits::CHOICES);
-    let choices = random::byte_below(b, std::num::wrapping_add_u8(most_choices, 1));
-    let mut like = wide_shape(variables, choices, random::byte_below(c, 13));
-    like.fewest = random::byte_below(random::next(c), 2);
+    let variables = random::byte_below(a, most.wrapping_add(1));
+    let most_choices = variables.min(limits::CHOICES);
+    let choices = random::byte_below(b, most_choices + 1);
+    let like = Shape {
+        fewest: random::byte_below(random::next(c), 2),
+        ..wide_shape(variables, choices, random::byte_below(c, 13))
+    };
     book(c, like)
 }

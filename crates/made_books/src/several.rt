@@ -1,6 +1,5 @@
 // Books with several goals and several reasons for each: five facts, and rules by which one, two or three of them force
 // choice 6, 7 or 8. With small costs, reasons of different sizes often cost the same.
-use crate::drawn::Rule;
 use crate::{drawn, made};
 use samples::build::Draft;
 use samples::{build, random};
@@ -21,7 +20,7 @@ pub fn reason(d: Draft) -> Draft {
     let a = random::next(d.seed);
     let b = random::next(a);
     let size = random::byte_below(a, 3);
-    let mut made = build::rule(d, std::num::wrapping_add_u8(size, 2));
+    let mut made = build::rule(d, size.wrapping_add(2));
     if size == 0 {
         made = build::put(made, unless(b, 1, FACTS));
     } else {
@@ -40,6 +39,6 @@ pub fn made(seed: u64, cost: u16) -> Draft {
     let mut d = build::header(build::empty(), CHOICES, CHOICES, RULES);
     d.seed = random::next(seed);
     let d = made::costs(d, CHOICES, cost);
-    let d = drawn::rules(d, Rule::Reason, RULES);
+    let d = drawn::rules(d, RULES, reason);
     build::end(build::first_facts(d, FACTS, true))
 }

@@ -9,7 +9,7 @@ use samples::{build, edits, random, windows};
 #[derive(Clone, Copy)]
 pub struct Windowed {
     pub plain: Draft,
-    pub windows: [Window; Windowed::WINDOWS],
+    pub windows: [Option<Window>; Windowed::WINDOWS],
 }
 
 impl Windowed {
@@ -29,25 +29,17 @@ enum Typing {
 // A good book with windows that are drawn from its state.
 pub fn of_book(plain: Draft, like: Season) -> Windowed {
     let mut seed = plain.seed;
-    let none = windows::none();
-    let mut drawn = [none; Windowed::WINDOWS];
-    let end = Windowed::WINDOWS;
-    for i in 0..end {
+    let mut windows = [None; Windowed::WINDOWS];
+    for window in &mut windows {
         seed = random::next(seed ^ 11400714819323198485);
-        let window = seasons::drawn(like, seed);
-        drawn[i] = window;
+        *window = seasons::drawn(like, seed);
     }
-    Windowed {
-        plain,
-        windows: drawn,
-    }
+    Windowed { plain, windows }
 }
 
 // The window of the rule that has so many before it.
-pub fn window_of(b: Windowed, rule: u8) -> Window {
-    let place = rule as usize % Windowed::WINDOWS;
-    let windows = b.windows;
-    windows[place]
+pub fn window_of(b: Windowed, rule: u8) -> Option<Window> {
+    b.windows[usize::from(rule) % Windowed::WINDOWS]
 }
 
 // One of the moments at the edges of the windows.
@@ -55,35 +47,20 @@ pub fn edge(b: Windowed, n: u8) -> Moment {
     moments::edge(window_of(b, n / moments::EDGES), n % moments::EDGES)
 }
 
+// The byte at a place, or 0.
 fn byte_at(d: Draft, place: usize) -> u8 {
-    if place < Draft::ROOM {
-        d.bytes[place]
-    } else {
-        0
-    }
+    build::byte_at(d.as_slice(), place)
 }
 
 // The bytes of another draft from one place to another, put behind those of this one.
 fn copied(d: Draft, from: Draft, start: usize, end: usize) -> Draft {
-    let mut made = d;
-    for i in start..end {
-        made = build::put(made, byte_at(from, i));
-    }
-    made
-}
-
-fn sum(a: usize, b: usize) -> usize {
-    std::num::wrapping_add_usize(a, b)
-}
-
-// Where the rules of a good book begin: HD has 5 bytes, with the number of choices at 3, and each CS has 7.
-fn rules_begin(d: Draft) -> usize {
-    5 + 7 * (byte_at(d, 3) as usize)
+    build::bytes(d, from.as_slice().get(start..end).unwrap_or_default())
 }
 
 // Where the rule at a place ends, its count being the third byte.
 fn rule_ends(d: Draft, place: usize) -> usize {
-    sum(sum(place, 3), byte_at(d, sum(place, 2)) as usize)
+    let count = byte_at(d, place.wrapping_add(2));
+    place.wrapping_add(3).wrapping_add(usize::from(count))
 }
 
 // The place of R in HD.
@@ -96,23 +73,19 @@ fn rule(made: Draft, b: Windowed, n: u8, place: usize, how: Typing) -> Draft {
     let with_rule = copied(made, plain, place, rule_ends(plain, place));
     match how {
         Typing::Whole => build::any_window(with_rule, w),
-        Typing::At(m) => {
-            if windows::in_force(w, m) {
-                edits::changed(with_rule, R, std::num::wrapping_add_u8(byte_at(made, R), 1))
-            } else {
-                made
-            }
+        Typing::At(m) if w.is_none_or(|w| windows::in_force(w, m)) => {
+            edits::changed(with_rule, R, byte_at(made, R).wrapping_add(1))
         }
+        Typing::At(_) => made,
     }
 }
 
 // A book typed from what stands before its rules.
 fn typed_from(before: Draft, b: Windowed, how: Typing) -> Draft {
     let plain = b.plain;
-    let rules = byte_at(plain, R);
-    let mut place = rules_begin(plain);
+    let mut place = build::rules_begin(plain.as_slice());
     let mut made = before;
-    for n in 0..rules {
+    for n in 0..byte_at(plain, R) {
         made = rule(made, b, n, place, how);
         place = rule_ends(plain, place);
     }
@@ -122,7 +95,12 @@ fn typed_from(before: Draft, b: Windowed, how: Typing) -> Draft {
 // What stands before the rules.
 fn beginning(b: Windowed) -> Draft {
     let plain = b.plain;
-    let mut made = copied(build::empty(), plain, 0, rules_begin(plain));
+    let mut made = copied(
+        build::empty(),
+        plain,
+        0,
+        build::rules_begin(plain.as_slice()),
+    );
     made.seed = plain.seed;
     made
 }

@@ -1,84 +1,83 @@
 // The reader's answer held against the reckoning, or against a number and a place.
+use readings::counts;
+use readings::counts::Counts;
 use samples::build::Draft;
-use samples::reckon::Reckoned;
-use samples::{build, reckon};
+use samples::reckon;
+use samples::reckon::Refused;
 
-// Of a group: how many books were tried, at how many reader and reckoning differed, at how many the reader was not as
-// expected. Of all groups: how many books were reckoned good (entry 0) or refused with each number, and how many hold a rule
-// of no literals, or a window.
+// Of a group: at how many books reader and reckoning differed, and at how many the reader was not as expected. Of all groups:
+// how many books were reckoned good, or refused with each number, and how many hold a rule of no literals, or a window.
 #[derive(Clone, Copy)]
 pub struct Tally {
-    pub tried: u64,
-    pub differ: u64,
+    pub books: Counts,
     pub unexpected: u64,
-    pub numbers: [u64; 16],
+    pub good: u64,
+    pub refused: [u64; Tally::NUMBERS],
     pub empty_rules: u64,
     pub windows: u64,
 }
 
-pub fn none() -> Tally {
-    Tally {
-        tried: 0,
-        differ: 0,
-        unexpected: 0,
-        numbers: [0; 16],
-        empty_rules: 0,
-        windows: 0,
+impl Tally {
+    // No number of a refusal is as large.
+    const NUMBERS: usize = 16;
+
+    pub fn new() -> Tally {
+        Tally {
+            books: Counts::default(),
+            unexpected: 0,
+            good: 0,
+            refused: [0; Tally::NUMBERS],
+            empty_rules: 0,
+            windows: 0,
+        }
     }
-}
 
-// The tally at the beginning of the next group.
-pub fn next_group(mut t: Tally) -> Tally {
-    t.tried = 0;
-    t.differ = 0;
-    t.unexpected = 0;
-    t
-}
-
-// Whether the reader gives what is reckoned.
-fn agrees(s: &[u8], due: Reckoned) -> bool {
-    readings::agree(book::read(s), book::read_costs(s), due)
-}
-
-// Whether the reader gives this number and place.
-fn answers(s: &[u8], number: u8, place: usize) -> bool {
-    let reading = book::read(s);
-    let verdict = reading.verdict;
-    readings::says(verdict, number, place)
-}
-
-// One more book that was reckoned, good or refused with a number.
-fn noted(mut t: Tally, number: u8) -> Tally {
-    let i = (number % 16) as usize;
-    let before = t.numbers[i];
-    t.numbers[i] = std::num::wrapping_add_u64(before, 1);
-    t.tried = std::num::wrapping_add_u64(t.tried, 1);
-    t
-}
-
-// One more book, held against the reckoning.
-pub fn count(t: Tally, d: Draft) -> Tally {
-    let bytes = d.bytes;
-    let s = build::part(&bytes, d.len);
-    let due = reckon::reckon(s);
-    let mut after = noted(t, due.number);
-    if reckon::has_empty_rule(due) {
-        after.empty_rules = std::num::wrapping_add_u64(after.empty_rules, 1);
+    // The next group begins.
+    pub fn begin_group(&mut self) {
+        self.books = Counts::default();
+        self.unexpected = 0;
     }
-    if reckon::has_window(due) {
-        after.windows = std::num::wrapping_add_u64(after.windows, 1);
-    }
-    if !agrees(s, due) {
-        after.differ = std::num::wrapping_add_u64(after.differ, 1);
-    }
-    after
-}
 
-// One more book, held against the reckoning and against a number and a place.
-pub fn expect(mut t: Tally, d: Draft, number: u8, place: usize) -> Tally {
-    let bytes = d.bytes;
-    if !answers(build::part(&bytes, d.len), number, place) {
-        t.unexpected = std::num::wrapping_add_u64(t.unexpected, 1);
+    // One more book, held against the reckoning.
+    pub fn count(&mut self, d: &Draft) {
+        let s = d.as_slice();
+        let due = reckon::reckon(s);
+        match &due {
+            Ok(b) => {
+                counts::count(&mut self.good, true);
+                counts::count(&mut self.empty_rules, reckon::has_empty_rule(b));
+                counts::count(&mut self.windows, reckon::has_window(b));
+            }
+            Err(refused) => {
+                let place = usize::from(refused.number) % Tally::NUMBERS;
+                counts::count(&mut self.refused[place], true);
+            }
+        }
+        self.books.note(readings::agree(&book::read(s), &book::read_costs(s), &due));
     }
-    count(t, d)
+
+    // One more book, held against the reckoning, and against what is expected of it.
+    fn expect(&mut self, d: &Draft, due: Result<(), Refused>) {
+        let said = book::read(d.as_slice()).map(|_| ());
+        counts::count(&mut self.unexpected, said.map_err(readings::refused) != due);
+        self.count(d);
+    }
+
+    // One more book, which is expected to be read.
+    pub fn read(&mut self, d: Draft) {
+        self.expect(&d, Ok(()));
+    }
+
+    // One more book, which is expected to be refused with this number at this place.
+    pub fn refused(&mut self, d: Draft, number: u8, place: usize) {
+        self.expect(&d, Err(Refused { number, place }));
+    }
+
+    // One more book, which is expected to be refused, or to be read where there is no number.
+    pub fn answered(&mut self, d: Draft, number: Option<u8>, place: usize) {
+        match number {
+            Some(number) => self.refused(d, number, place),
+            None => self.read(d),
+        }
+    }
 }

@@ -1,110 +1,84 @@
 // Groups of many books, each held against the reckoning.
-use crate::compare;
 use crate::compare::Tally;
 use made_books::seasons::Season;
 use made_books::{made, windowed};
 use samples::build::Draft;
 use samples::{build, edits, random};
+use std::ops::Range;
 
 // Every prefix of a book, the whole of it last.
-pub fn truncations(t: Tally, d: Draft) -> Tally {
-    let mut after = t;
-    let len = d.len;
-    for n in 0..len {
-        after = compare::count(after, edits::cut(d, n));
+pub fn truncations(t: &mut Tally, d: Draft) {
+    for n in 0..d.len {
+        t.count(&edits::cut(d, n));
     }
-    compare::count(after, d)
+    t.count(&d);
 }
 
-fn byte_of(n: u16) -> u8 {
-    (n % 256) as u8
-}
-
-// Every value of one byte.
-fn changes_at(t: Tally, d: Draft, place: usize) -> Tally {
-    let mut after = t;
-    for b in 0..256 {
-        after = compare::count(after, edits::changed(d, place, byte_of(b)));
+// Every value of each byte at these places, one byte at a time.
+pub fn changes(t: &mut Tally, d: Draft, places: Range<usize>) {
+    for place in places {
+        for b in 0..=u8::MAX {
+            t.count(&edits::changed(d, place, b));
+        }
     }
-    after
-}
-
-// Every value of each byte from one place to another, one byte at a time.
-pub fn changes(t: Tally, d: Draft, from: usize, to: usize) -> Tally {
-    let mut after = t;
-    for place in from..to {
-        after = changes_at(after, d, place);
-    }
-    after
-}
-
-// Every byte put in at one place.
-fn insertions_at(t: Tally, d: Draft, place: usize) -> Tally {
-    let mut after = t;
-    for b in 0..256 {
-        after = compare::count(after, edits::with(d, place, byte_of(b)));
-    }
-    after
 }
 
 // Each byte of a book left out, and every byte put in before it.
-pub fn shifts(t: Tally, d: Draft) -> Tally {
-    let mut after = t;
-    let len = d.len;
-    for place in 0..len {
-        after = compare::count(after, edits::without(d, place));
-        after = insertions_at(after, d, place);
+pub fn shifts(t: &mut Tally, d: Draft) {
+    for place in 0..d.len {
+        t.count(&edits::without(d, place));
+        for b in 0..=u8::MAX {
+            t.count(&edits::with(d, place, b));
+        }
     }
-    after
 }
 
-// A byte after a good book: by itself, before an N, after an E and after an F.
-fn extra_byte(t: Tally, d: Draft, b: u8) -> Tally {
-    let t = compare::count(t, build::put(d, b));
-    let t = compare::count(t, build::put2(d, b, b'N'));
-    let t = compare::count(t, build::put2(d, b'E', b));
-    compare::count(t, build::put2(d, b'F', b))
-}
-
-// Every byte after a good book.
-pub fn extra_bytes(t: Tally, d: Draft) -> Tally {
-    let mut after = t;
-    for b in 0..256 {
-        after = extra_byte(after, d, byte_of(b));
+// Every byte after a good book: by itself, before an N, after an E and after an F.
+pub fn extra_bytes(t: &mut Tally, d: Draft) {
+    for b in 0..=u8::MAX {
+        t.count(&build::put(d, b));
+        t.count(&build::put2(d, b, b'N'));
+        t.count(&build::put2(d, b'E', b));
+        t.count(&build::put2(d, b'F', b));
     }
-    after
 }
 
-// A good book of up to `most` variables, made up from a seed, with windows of any kind or without.
-fn good_book(seed: u64, most: u8, with_windows: bool) -> Draft {
-    let plain = made::any_book(seed, most);
-    if with_windows {
-        windowed::typed(windowed::of_book(plain, Season::Any))
-    } else {
-        plain
+// What books are made up: so many, of up to so many variables, with windows of any kind or without.
+#[derive(Clone, Copy)]
+pub struct Made {
+    pub books: u32,
+    pub variables: u8,
+    pub with_windows: bool,
+}
+
+impl Made {
+    // The book from a seed.
+    fn book(self, seed: u64) -> Draft {
+        let plain = made::any_book(seed, self.variables);
+        if self.with_windows {
+            windowed::typed(windowed::of_book(plain, Season::Any))
+        } else {
+            plain
+        }
     }
 }
 
 // Good books made up: each is expected to be read.
-pub fn made_up(t: Tally, books: u32, most: u8, with_windows: bool) -> Tally {
-    let mut after = t;
+pub fn made_up(t: &mut Tally, like: Made) {
     let mut seed = 88172645463325252;
-    for i in 0..books {
-        let d = good_book(seed, most, with_windows);
-        after = compare::expect(after, d, 0, 0);
+    for _ in 0..like.books {
+        let d = like.book(seed);
+        t.read(d);
         seed = d.seed;
     }
-    after
 }
 
 // Books made up and edited.
-pub fn edited(t: Tally, books: u32, most: u8, with_windows: bool) -> Tally {
-    let mut after = t;
+pub fn edited(t: &mut Tally, like: Made) {
     let mut seed = 362436069362436069;
-    for i in 0..books {
-        let d = edits::much_edited(good_book(seed, most, with_windows));
-        after = compare::count(after, d);
+    for _ in 0..like.books {
+        let d = edits::much_edited(like.book(seed));
+        t.count(&d);
         seed = random::next(d.seed);
     }
-    after
 }

@@ -9,10 +9,12 @@ mod window_boundaries;
 mod window_groups;
 
 use compare::Tally;
+use groups::Made;
 use made_books::windowed::Windowed;
 use made_books::{made, windowed};
 use samples::build::Draft;
 use samples::{build, counter, limits, windows};
+use std::io;
 
 // Where the last rule of the longest book without windows and its third fact begin: without facts it would end with EN where
 // its first one is.
@@ -25,108 +27,108 @@ const LAST_WINDOW: usize = limits::BOOK - 98 - limits::WINDOW;
 
 const SECOND_FACT: usize = LAST_WINDOW + limits::WINDOW + 3;
 
-fn line(name: &[u8], tried: u64, differ: u64) {
-    io::write_all(1, name);
-    io::write_all(1, b": ");
-    io::print_decimal(1, tried);
-    io::write_all(1, b" tried, ");
-    io::print_decimal(1, differ);
-    io::write_all(1, b" differ\n");
+// The line of a group, after which the next one begins.
+fn end_group(rt: &impl Print, name: &str, t: &mut Tally) -> io::Result<()> {
+    let books = t.books;
+    t.begin_group();
+    println!(rt; "{name}: {books}")
 }
 
-fn entry(n: u64) {
-    io::write_all(1, b" ");
-    io::print_decimal(1, n);
-}
-
-fn entries(t: Tally) {
-    for i in 1..8 {
-        entry(t.numbers[i]);
-    }
+// The same, where it was expected too what the reader answers.
+fn end_expected(rt: &impl Print, name: &str, also: &str, t: &mut Tally) -> io::Result<()> {
+    let books = t.books;
+    let unexpected = t.unexpected;
+    t.begin_group();
+    println!(rt; "{name}: {books}")?;
+    println!(rt; "{also}: {} tried, {unexpected} differ", books.tried)
 }
 
 // How many books were good and how many were refused with each number, so that a reader sees what was tried.
-fn answers(t: Tally) {
-    io::write_all(1, b"reckoned: ");
-    io::print_decimal(1, t.numbers[0]);
-    io::write_all(1, b" good, refused with 1 to 7 and 14:");
-    entries(t);
-    entry(t.numbers[14]);
-    io::write_all(1, b"\ngood books with a rule of no literals: ");
-    io::print_decimal(1, t.empty_rules);
-    io::write_all(1, b"\ngood books with a window: ");
-    io::print_decimal(1, t.windows);
-    io::write_all(1, b"\n");
+fn answers(rt: &impl Print, t: &Tally) -> io::Result<()> {
+    print!(rt; "reckoned: {} good, refused with 1 to 7 and 14:", t.good)?;
+    for number in [1, 2, 3, 4, 5, 6, 7, 14] {
+        print!(rt; " {}", t.refused[number])?;
+    }
+    println!(rt; "")?;
+    println!(rt; "good books with a rule of no literals: {}", t.empty_rules)?;
+    println!(rt; "good books with a window: {}", t.windows)
 }
 
 // Groups of good books with one place changed.
-fn near_good_books(t: Tally) -> Tally {
+fn near_good_books(rt: &impl Print, t: &mut Tally) -> io::Result<()> {
     let p = counter::order(b'c');
     let middle = made::book(123456789, made::wide_shape(12, 8, 12));
     let longest = build::longest(false);
-    let t = groups::truncations(groups::truncations(t, p), middle);
-    line(b"truncations", t.tried, t.differ);
-    let t = groups::changes(compare::next_group(t), p, 0, p.len);
-    let t = groups::changes(t, middle, 0, middle.len);
-    let t = groups::changes(t, longest, 0, 5);
-    let t = groups::changes(t, longest, LAST_RULE, THIRD_FACT);
-    line(b"changes", t.tried, t.differ);
-    let t = groups::shifts(compare::next_group(t), p);
-    line(b"a byte more or less", t.tried, t.differ);
-    let t = groups::extra_bytes(compare::next_group(t), p);
-    let t = groups::extra_bytes(t, middle);
-    line(b"extra bytes", t.tried, t.differ);
-    t
+    groups::truncations(t, p);
+    groups::truncations(t, middle);
+    end_group(rt, "truncations", t)?;
+    groups::changes(t, p, 0..p.len);
+    groups::changes(t, middle, 0..middle.len);
+    groups::changes(t, longest, 0..5);
+    groups::changes(t, longest, LAST_RULE..THIRD_FACT);
+    end_group(rt, "changes", t)?;
+    groups::shifts(t, p);
+    end_group(rt, "a byte more or less", t)?;
+    groups::extra_bytes(t, p);
+    groups::extra_bytes(t, middle);
+    end_group(rt, "extra bytes", t)
 }
 
 // Book P with windows for its first rule and its third.
 fn windowed_p() -> Draft {
     let plain = counter::book_p();
-    let none = windows::none();
-    let first = windows::nth(77);
-    let third = windows::nth(120);
-    let windows = [first, none, third, none, none];
+    let first = Some(windows::nth(77));
+    let third = Some(windows::nth(120));
+    let windows = [first, None, third, None, None];
     windowed::typed(Windowed { plain, windows })
 }
 
 // Groups of good books with windows in which one place is changed.
-fn near_windows(t: Tally) -> Tally {
+fn near_windows(rt: &impl Print, t: &mut Tally) -> io::Result<()> {
     let p = windowed_p();
     let longest = build::longest(true);
-    let t = groups::truncations(t, p);
-    let t = groups::changes(t, p, 0, p.len);
-    line(b"windows, cut short or changed", t.tried, t.differ);
-    let t = groups::shifts(compare::next_group(t), p);
-    line(b"windows, a byte more or less", t.tried, t.differ);
-    let t = groups::changes(compare::next_group(t), longest, LAST_WINDOW, SECOND_FACT);
-    line(b"windows, the longest book changed", t.tried, t.differ);
-    let t = window_groups::pairs(window_groups::dates(compare::next_group(t)));
-    line(b"windows, dates and pairs", t.tried, t.differ);
-    t
+    groups::truncations(t, p);
+    groups::changes(t, p, 0..p.len);
+    end_group(rt, "windows, cut short or changed", t)?;
+    groups::shifts(t, p);
+    end_group(rt, "windows, a byte more or less", t)?;
+    groups::changes(t, longest, LAST_WINDOW..SECOND_FACT);
+    end_group(rt, "windows, the longest book changed", t)?;
+    window_groups::dates(t);
+    window_groups::pairs(t);
+    end_group(rt, "windows, dates and pairs", t)
 }
 
 // Groups of books made up, of few variables and of up to the most.
-fn made_up_books(t: Tally, with_windows: bool) -> Tally {
-    let t = groups::made_up(t, 4000, 10, with_windows);
-    let t = groups::made_up(t, 1000, limits::VARIABLES, with_windows);
-    line(b"made up", t.tried, t.differ);
-    line(b"made up, expected", t.tried, t.unexpected);
-    let t = groups::edited(compare::next_group(t), 16000, 10, with_windows);
-    let t = groups::edited(t, 4000, limits::VARIABLES, with_windows);
-    line(b"random", t.tried, t.differ);
-    t
+fn made_up_books(rt: &impl Print, t: &mut Tally, with_windows: bool) -> io::Result<()> {
+    let few = |books: u32| Made {
+        books,
+        variables: 10,
+        with_windows,
+    };
+    let many = |books: u32| Made {
+        books,
+        variables: limits::VARIABLES,
+        with_windows,
+    };
+    groups::made_up(t, few(4000));
+    groups::made_up(t, many(1000));
+    end_expected(rt, "made up", "made up, expected", t)?;
+    groups::edited(t, few(16000));
+    groups::edited(t, many(4000));
+    end_group(rt, "random", t)
 }
 
-fn main() {
-    let t = boundaries::all(compare::none());
-    line(b"boundaries", t.tried, t.differ);
-    line(b"expected", t.tried, t.unexpected);
-    let t = window_boundaries::all(compare::next_group(t));
-    line(b"windows", t.tried, t.differ);
-    line(b"windows, expected", t.tried, t.unexpected);
-    let t = near_good_books(compare::next_group(t));
-    let t = near_windows(compare::next_group(t));
-    let t = made_up_books(compare::next_group(t), false);
-    io::write_all(1, b"books with windows:\n");
-    answers(made_up_books(compare::next_group(t), true));
+fn main(rt: HostRuntime) -> io::Result<()> {
+    let mut t = Tally::new();
+    boundaries::all(&mut t);
+    end_expected(&rt, "boundaries", "expected", &mut t)?;
+    window_boundaries::all(&mut t);
+    end_expected(&rt, "windows", "windows, expected", &mut t)?;
+    near_good_books(&rt, &mut t)?;
+    near_windows(&rt, &mut t)?;
+    made_up_books(&rt, &mut t, false)?;
+    println!(rt; "books with windows:")?;
+    made_up_books(&rt, &mut t, true)?;
+    answers(&rt, &t)
 }

@@ -1,32 +1,23 @@
 // The engine asked for the book of a text.
-use dimacs::Imported;
+use samples::reckon::Refused;
 use samples::{build, limits};
 
-// The answer: number 0 and the book's length, or the refusal; and the room in which the buffer lay, with what it began with.
+// The answer: the book's length, or the refusal; and the room in which the buffer lay, with the byte that it began with.
 #[derive(Clone, Copy)]
 pub struct Answered {
     pub room: [u8; Answered::ROOM],
     pub start: u8,
-    pub number: u8,
-    pub place: usize,
-    pub size: usize,
+    pub said: Result<usize, Refused>,
 }
 
-impl Answered {
-    // Some more bytes than the longest book without facts has.
-    pub const ROOM: usize = limits::WITHOUT_FACTS + 45;
-}
-
-// What the room holds at a place before the call. No place holds the same for two different starts.
-fn before(start: u8, i: usize) -> u8 {
-    std::num::wrapping_add_u8((i % 256) as u8, start)
-}
-
+// What the room holds before the call: each byte is one more than the one before it, so that no place holds the same for two
+// different starts.
 fn prepared(start: u8) -> [u8; Answered::ROOM] {
     let mut room = [0; Answered::ROOM];
-    let end = Answered::ROOM;
-    for i in 0..end {
-        room[i] = before(start, i);
+    let mut next = start;
+    for byte in &mut room {
+        *byte = next;
+        next = next.wrapping_add(1);
     }
     room
 }
@@ -35,21 +26,30 @@ fn prepared(start: u8) -> [u8; Answered::ROOM] {
 fn answer_in(s: &[u8], len: usize, start: u8) -> Answered {
     let mut room = prepared(start);
     let end = build::fitting(&room, len);
-    match engine::read_dimacs(s, &mut room[0..end]) {
-        Imported::Written(size) => Answered {
-            room,
-            start,
-            number: 0,
-            place: 0,
-            size,
-        },
-        Imported::Refused { number, place } => Answered {
-            room,
-            start,
-            number,
-            place,
-            size: 0,
-        },
+    let said = engine::read_dimacs(s, &mut room[..end]).map_err(readings::refused);
+    Answered { room, start, said }
+}
+
+impl Answered {
+    // Some more bytes than the longest book without facts has.
+    pub const ROOM: usize = limits::WITHOUT_FACTS + 45;
+
+    // The bytes that were written.
+    pub fn book(&self) -> &[u8] {
+        build::part(&self.room, self.said.unwrap_or(0))
+    }
+
+    // Whether a book was written, it is this one, and the room is as it was beyond it.
+    fn has_written(&self, book: &[u8]) -> bool {
+        let len = book.len().min(Answered::ROOM);
+        self.said == Ok(book.len())
+            && self.room.starts_with(book)
+            && self.room[len..] == prepared(self.start)[len..]
+    }
+
+    // Whether the text was refused in this way, and the room is as it was.
+    fn has_refused(&self, due: Refused) -> bool {
+        self.said == Err(due) && self.room == prepared(self.start)
     }
 }
 
@@ -57,48 +57,12 @@ pub fn answer(s: &[u8], len: usize) -> Answered {
     answer_in(s, len, 165)
 }
 
-// Whether the room holds these bytes and beyond them what it held before.
-fn same_room(room: [u8; Answered::ROOM], bytes: &[u8], start: u8) -> bool {
-    let end = Answered::ROOM;
-    for i in 0..end {
-        let due = if i < bytes.len() {
-            bytes[i]
-        } else {
-            before(start, i)
-        };
-        if room[i] != due {
-            return false;
-        }
-    }
-    true
-}
-
-// Whether a book was written, and it is this one.
-fn has_written(a: Answered, book: &[u8]) -> bool {
-    if a.number != 0 || a.size != book.len() {
-        return false;
-    }
-    let room = a.room;
-    same_room(room, book, a.start)
-}
-
-// Whether the text was refused with this number and place, and the room is as it was.
-fn has_refused(a: Answered, number: u8, place: usize) -> bool {
-    if a.number != number || a.place != place {
-        return false;
-    }
-    let room = a.room;
-    same_room(room, &[], a.start)
-}
-
 // Whether this book is written of a text, whatever the room held before.
 pub fn writes(s: &[u8], len: usize, book: &[u8]) -> bool {
-    has_written(answer_in(s, len, 165), book) && has_written(answer_in(s, len, 90), book)
+    answer_in(s, len, 165).has_written(book) && answer_in(s, len, 90).has_written(book)
 }
 
-// Whether a text is refused with this number and place, whatever the room held before.
-pub fn refuses(s: &[u8], len: usize, number: u8, place: usize) -> bool {
-    let first = answer_in(s, len, 165);
-    let second = answer_in(s, len, 90);
-    has_refused(first, number, place) && has_refused(second, number, place)
+// Whether a text is refused in this way, whatever the room held before.
+pub fn refuses(s: &[u8], len: usize, due: Refused) -> bool {
+    answer_in(s, len, 165).has_refused(due) && answer_in(s, len, 90).has_refused(due)
 }

@@ -14,18 +14,21 @@ mod report;
 mod rows;
 mod tally;
 
-use groups::Source;
+use groups::Files;
 use samples::limits;
+use std::io;
 use tally::Tally;
 
 // Texts at the limits of the form, and near good files.
-fn form(t: Tally) -> Tally {
-    let t = rows::all(t);
-    every_text::all(groups::every_byte(groups::near_good_files(t)))
+fn form(t: &mut Tally) {
+    rows::all(t);
+    groups::near_good_files(t);
+    groups::every_byte(t);
+    every_text::all(t);
 }
 
-fn source(seed: u64, variables: u8, clauses: u8, literals: u8) -> Source {
-    Source {
+fn files(seed: u64, variables: u8, clauses: u8, literals: u8) -> Files {
+    Files {
         seed,
         variables,
         clauses,
@@ -34,25 +37,28 @@ fn source(seed: u64, variables: u8, clauses: u8, literals: u8) -> Source {
 }
 
 // Files made up: few variables and clauses, clauses of many literals, and many clauses.
-fn made_files(t: Tally) -> Tally {
-    let few = source(88172645463325252, 6, 5, 4);
-    let long = source(362436069362436069, limits::VARIABLES, 8, 8);
-    let many = source(521288629521288629, limits::VARIABLES, 30, 5);
-    let t = groups::made_files(groups::made_files(t, 4000, few), 8000, long);
-    groups::made_files(t, 2000, many)
+fn made_files(t: &mut Tally) {
+    let few = files(88172645463325252, 6, 5, 4);
+    groups::made_files(t, 4000, few);
+    let long = files(362436069362436069, limits::VARIABLES, 8, 8);
+    groups::made_files(t, 8000, long);
+    let many = files(521288629521288629, limits::VARIABLES, 30, 5);
+    groups::made_files(t, 2000, many);
 }
 
 // Files of few variables: clauses of up to three literals, of which many files have no model, and longer ones.
-fn small_files(t: Tally) -> Tally {
-    let many = source(246813579246813579, 8, 30, 3);
-    let few = source(927350631927350631, 5, 12, 3);
-    let long = source(135792468135792468, 8, 16, 8);
-    let t = models::files(models::files(t, 3000, many), 2000, few);
-    models::files(t, 2000, long)
+fn small_files(t: &mut Tally) {
+    models::files(t, 3000, files(246813579246813579, 8, 30, 3));
+    models::files(t, 2000, files(927350631927350631, 5, 12, 3));
+    models::files(t, 2000, files(135792468135792468, 8, 16, 8));
 }
 
-fn main() {
-    let t = form(tally::none());
-    let t = long_files::all(made_files(t));
-    report::all(small_files(groups::buffers(t)));
+fn main(rt: HostRuntime) -> io::Result<()> {
+    let mut t = Tally::new();
+    form(&mut t);
+    made_files(&mut t);
+    long_files::all(&mut t);
+    groups::buffers(&mut t);
+    small_files(&mut t);
+    report::all(&rt, &t)
 }

@@ -5,33 +5,29 @@ use crate::compare;
 use crate::tally::Tally;
 use samples::build;
 use samples::build::Draft;
+use samples::reckon::Refused;
 
 // Standard input.
 const STDIN: i32 = 0;
 
 // What the next byte of the table is taken for.
-const NUMBER: u8 = 0;
-
-const PLACE: u8 = 1;
-
-const BOOK: u8 = 2;
-
-const LOW_OF_BOOK: u8 = 3;
-
-const BAR: u8 = 4;
-
-const TEXT: u8 = 5;
-
-const HIGH_OF_TEXT: u8 = 6;
-
-const LOW_OF_TEXT: u8 = 7;
-
-const LINE_END: u8 = 8;
+#[derive(Clone, Copy, Debug, PartialEq, Eq)]
+enum Awaited {
+    Number,
+    Place,
+    Book,
+    LowOfBook,
+    Bar,
+    Text,
+    HighOfText,
+    LowOfText,
+    LineEnd,
+}
 
 // The row in hand: what the next byte is taken for, the fields so far, the high half of a byte.
 #[derive(Clone, Copy)]
 struct Row {
-    state: u8,
+    awaited: Awaited,
     number: u64,
     place: u64,
     high: u8,
@@ -39,159 +35,131 @@ struct Row {
     text: Draft,
 }
 
-fn begun() -> Row {
-    Row {
-        state: NUMBER,
-        number: 0,
-        place: 0,
-        high: 0,
-        book: build::empty(),
-        text: build::empty(),
-    }
-}
-
 // The value of a hex digit.
 fn hex(b: u8) -> u8 {
     let value = if b < b'A' {
-        std::num::wrapping_sub_u8(b, b'0')
+        b.wrapping_sub(b'0')
     } else {
-        std::num::wrapping_sub_u8(b, b'A' - 10)
+        b.wrapping_sub(b'A' - 10)
     };
     value % 16
 }
 
-// A byte of two halves.
-fn joined(high: u8, b: u8) -> u8 {
-    std::num::wrapping_add_u8(high % 16 * 16, hex(b))
-}
-
 // A number with one digit more.
 fn longer(n: u64, b: u8) -> u64 {
-    n % 65536 * 10 + hex(b) as u64
+    n % 65536 * 10 + u64::from(hex(b))
 }
 
-// A digit of the number, or what parts it from the place or from the book.
-fn number_byte(mut r: Row, b: u8) -> Row {
-    if b != b' ' {
-        r.number = longer(r.number, b);
-        return r;
+impl Row {
+    fn new() -> Row {
+        Row {
+            awaited: Awaited::Number,
+            number: 0,
+            place: 0,
+            high: 0,
+            book: build::empty(),
+            text: build::empty(),
+        }
     }
-    r.state = if r.number == 0 { BOOK } else { PLACE };
-    r
-}
 
-fn place_byte(mut r: Row, b: u8) -> Row {
-    if b == b' ' {
-        r.state = BAR;
-    } else {
-        r.place = longer(r.place, b);
+    // A digit of the number, or what parts it from the place or from the book.
+    fn number_byte(&mut self, b: u8) {
+        if b != b' ' {
+            self.number = longer(self.number, b);
+        } else if self.number == 0 {
+            self.awaited = Awaited::Book;
+        } else {
+            self.awaited = Awaited::Place;
+        }
     }
-    r
-}
 
-// The first half of a byte, after which the second is due.
-fn half(mut r: Row, b: u8, state: u8) -> Row {
-    r.high = hex(b);
-    r.state = state;
-    r
-}
-
-// A byte more of the book.
-fn with_book_byte(mut r: Row, b: u8) -> Row {
-    let book = build::put(r.book, b);
-    r.book = book;
-    r.state = BOOK;
-    r
-}
-
-// A byte more of the text.
-fn with_text_byte(mut r: Row, b: u8) -> Row {
-    let text = build::put(r.text, b);
-    r.text = text;
-    r.state = TEXT;
-    r
-}
-
-fn moved(mut r: Row, state: u8) -> Row {
-    r.state = state;
-    r
-}
-
-// A byte of the text as it stands, the beginning of another, or the bar behind it.
-fn text_byte(r: Row, b: u8) -> Row {
-    match b {
-        b'\\' => moved(r, HIGH_OF_TEXT),
-        b'|' => moved(r, LINE_END),
-        _ => with_text_byte(r, b),
+    // A digit of the place, or what parts it from the text.
+    fn place_byte(&mut self, b: u8) {
+        if b == b' ' {
+            self.awaited = Awaited::Bar;
+        } else {
+            self.place = longer(self.place, b);
+        }
     }
-}
 
-fn book_half(r: Row, b: u8) -> Row {
-    if b == b' ' {
-        moved(r, BAR)
-    } else {
-        half(r, b, LOW_OF_BOOK)
+    // The first half of a byte of the book, or what parts the book from the text.
+    fn book_byte(&mut self, b: u8) {
+        if b == b' ' {
+            self.awaited = Awaited::Bar;
+        } else {
+            self.half(b, Awaited::LowOfBook);
+        }
     }
-}
 
-// One byte of the table.
-fn step(r: Row, b: u8) -> Row {
-    let state = r.state;
-    match state {
-        NUMBER => number_byte(r, b),
-        PLACE => place_byte(r, b),
-        BOOK => book_half(r, b),
-        LOW_OF_BOOK => with_book_byte(r, joined(r.high, b)),
-        BAR => moved(r, TEXT),
-        TEXT => text_byte(r, b),
-        HIGH_OF_TEXT => half(r, b, LOW_OF_TEXT),
-        LOW_OF_TEXT => with_text_byte(r, joined(r.high, b)),
-        _ => begun(),
+    // The first half of a byte, after which the second is due.
+    fn half(&mut self, b: u8, second: Awaited) {
+        self.high = hex(b);
+        self.awaited = second;
     }
-}
 
-// A text of which this book is expected.
-fn with_book(t: Tally, s: &[u8], book: Draft) -> Tally {
-    let bytes = book.bytes;
-    compare::writes(t, s, build::part(&bytes, book.len))
-}
-
-// One row: the answer expected, and the answer reckoned.
-fn one(t: Tally, row: Row) -> Tally {
-    let text = row.text;
-    let book = row.book;
-    let bytes = text.bytes;
-    let s = build::part(&bytes, text.len);
-    if row.number == 0 {
-        with_book(t, s, book)
-    } else {
-        compare::refuses(t, s, (row.number % 256) as u8, (row.place % 65536) as usize)
+    // The byte of the first half and this one.
+    fn joined(&self, b: u8) -> u8 {
+        (self.high << 4) | hex(b)
     }
-}
 
-// The row where it is whole: its bar was the last byte.
-fn tried(t: Tally, row: Row) -> Tally {
-    if row.state == LINE_END {
-        one(t, row)
-    } else {
-        t
+    // A byte more of the text.
+    fn put_text(&mut self, b: u8) {
+        self.text = build::put(self.text, b);
+        self.awaited = Awaited::Text;
+    }
+
+    // A byte of the text as it stands, the beginning of another, or the bar behind it.
+    fn text_byte(&mut self, b: u8) {
+        match b {
+            b'\\' => self.awaited = Awaited::HighOfText,
+            b'|' => self.awaited = Awaited::LineEnd,
+            _ => self.put_text(b),
+        }
+    }
+
+    // One byte of the table.
+    fn step(&mut self, b: u8) {
+        match self.awaited {
+            Awaited::Number => self.number_byte(b),
+            Awaited::Place => self.place_byte(b),
+            Awaited::Book => self.book_byte(b),
+            Awaited::LowOfBook => {
+                self.book = build::put(self.book, self.joined(b));
+                self.awaited = Awaited::Book;
+            }
+            Awaited::Bar => self.awaited = Awaited::Text,
+            Awaited::Text => self.text_byte(b),
+            Awaited::HighOfText => self.half(b, Awaited::LowOfText),
+            Awaited::LowOfText => self.put_text(self.joined(b)),
+            Awaited::LineEnd => *self = Row::new(),
+        }
+    }
+
+    // The answer expected of the whole row, and the answer reckoned.
+    fn compare(&self, t: &mut Tally) {
+        let text = self.text.as_slice();
+        if self.number == 0 {
+            compare::writes(t, text, self.book.as_slice());
+        } else {
+            let due = Refused {
+                number: (self.number % 256) as u8,
+                place: (self.place % 65536) as usize,
+            };
+            compare::refuses(t, text, due);
+        }
     }
 }
 
-// Every row of a table.
-fn table(t: Tally, s: &[u8]) -> Tally {
-    let mut after = t;
-    let mut row = begun();
-    for i in 0..s.len() {
-        row = step(row, s[i]);
-        after = tried(after, row);
-    }
-    after
-}
-
-// Every row of the table on standard input.
-pub fn all(t: Tally) -> Tally {
+// Every row of the table on standard input, read into a fixed buffer, since the lines of the runtime's reader are on the heap. A row is
+// whole where its second bar was the last byte.
+pub fn all(t: &mut Tally) {
     let mut space = io::large_buffer();
     let size = io::read_full(STDIN, &mut space);
-    table(t, &space[..size])
+    let mut row = Row::new();
+    for b in &space[..size] {
+        row.step(*b);
+        if row.awaited == Awaited::LineEnd {
+            row.compare(t);
+        }
+    }
 }

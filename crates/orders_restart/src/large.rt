@@ -2,47 +2,44 @@
 use crate::books;
 use crate::breaks::Ways;
 use crate::run::Run;
-use brute_force::fillings::Literals;
 use brute_force::logs::Log;
+use engine_checks::asked_log;
 use engine_checks::asked_log::Answered;
-use engine_checks::{asked_log, counts};
+use engine_checks::question::Question;
 use made_books::made;
+use readings::counts;
 use samples::build::Draft;
-use samples::{build, limits, random, windows};
+use samples::reckon::Literals;
+use samples::{build, limits, random};
 
 // The log that the engine wrote.
-fn log_of(w: Answered) -> Log {
-    let room = w.room;
-    Log {
-        written: build::bytes(build::empty(), build::part(&room, w.size)),
-        known: Literals { yes: 0, no: 0 },
-        steps: w.steps as u64,
-        total: w.total as u64,
+fn log_of(q: Question<'_>) -> Option<Log> {
+    let answered = asked_log::written(q, limits::LOG, Answered::BEFORE);
+    let written = answered.said.ok()?;
+    Some(Log {
+        written: build::bytes(build::empty(), answered.log()),
+        known: Literals::default(),
+        steps: written.steps,
+        total: written.total,
         ended: true,
-    }
+    })
 }
 
 // One book with a model.
-fn one(mut r: Run, d: Draft) -> Run {
-    let bytes = d.bytes;
-    let s = build::part(&bytes, d.len);
-    let m = windows::drawn_moment(d.seed);
-    let w = asked_log::written(s, m, limits::LOG, Answered::BEFORE);
-    if w.number != 0 {
-        r.left_out = counts::more(r.left_out);
-        return r;
+fn one(r: &mut Run, d: &Draft) {
+    let q = Question::of_draft(d);
+    match log_of(q) {
+        Some(log) => books::with_log(r, q, &log, Ways::InTurn, d.seed),
+        None => counts::count(&mut r.left_out, true),
     }
-    books::with_log(r, s, m, log_of(w), Ways::InTurn, d.seed)
 }
 
 // So many books.
-pub fn each(r: Run, books: u32) -> Run {
-    let mut after = r;
+pub fn each(r: &mut Run, books: u32) {
     let mut seed = 299792458299792458;
-    for i in 0..books {
+    for _ in 0..books {
         let d = made::book(seed, made::largest_shape(seed));
-        after = one(after, d);
+        one(r, &d);
         seed = random::next(d.seed);
     }
-    after
 }

@@ -1,10 +1,10 @@
 // A book too large for the reckoning whose log is long and known from how the book is made: of nine facts, each set of seven that is
 // named here makes one choice yes.
-use brute_force::fillings::Literals;
 use brute_force::logs::Log;
 use brute_force::steps::Taken;
 use brute_force::{fillings, logs};
 use samples::build::Draft;
+use samples::reckon::Literals;
 use samples::{build, limits};
 
 const FACTS: u8 = 9;
@@ -22,37 +22,27 @@ fn has_fact(set: u8, fact: u8) -> bool {
 
 // The choice that a set makes yes.
 fn choice_of(set: u8) -> u8 {
-    std::num::wrapping_add_u8(std::num::wrapping_add_u8(FACTS, set), 1)
+    FACTS.wrapping_add(set).wrapping_add(1)
 }
 
 // The opposites of a set's facts.
 fn opposites(d: Draft, set: u8) -> Draft {
     let mut made = d;
-    let facts = FACTS;
-    for i in 0..facts {
-        if has_fact(set, i) {
-            made = build::put(made, build::negated(std::num::wrapping_add_u8(i, 1)));
-        }
+    for fact in (0..FACTS).filter(|fact| has_fact(set, *fact)) {
+        made = build::put(made, build::negated(fact.wrapping_add(1)));
     }
     made
 }
 
-// A rule for each set.
-fn rules(d: Draft) -> Draft {
-    let mut made = d;
-    let sets = SETS;
-    for i in 0..sets {
-        let literals = build::rule(made, limits::LITERALS);
-        made = build::put(opposites(literals, i), choice_of(i));
-    }
-    made
-}
-
-// The book: every yes costs 5 and every no 9.
+// The book, with a rule for each set: every yes costs 5 and every no 9.
 pub fn book() -> Draft {
     let d = build::header(build::empty(), limits::VARIABLES, limits::CHOICES, SETS);
-    let d = rules(build::costs(d, limits::CHOICES));
-    build::end(build::first_facts(d, FACTS, true))
+    let mut made = build::costs(d, limits::CHOICES);
+    for set in 0..SETS {
+        let rule = build::rule(made, limits::LITERALS);
+        made = build::put(opposites(rule, set), choice_of(set));
+    }
+    build::end(build::first_facts(made, FACTS, true))
 }
 
 fn all_yes(mask: u64) -> Literals {
@@ -61,24 +51,18 @@ fn all_yes(mask: u64) -> Literals {
 
 // The facts of a set, as a mask.
 fn facts_of(set: u8) -> u64 {
-    let mut mask = 0u64;
-    let facts = FACTS;
-    for i in 0..facts {
-        if has_fact(set, i) {
-            mask = mask | fillings::power(i as usize);
-        }
-    }
-    mask
+    (0..FACTS)
+        .filter(|fact| has_fact(set, *fact))
+        .fold(0, |mask, fact| mask | fillings::power(usize::from(fact)))
 }
 
-// The step that has a number. All cost the same, 5 for each of seven facts and 9 for the opposite of the goal, and have as many
-// facts: so the goals rise. After the last set nothing is left.
-fn step(n: u8) -> Taken {
-    let goal = all_yes(fillings::bit(choice_of(n)));
+// The step that a set brings. All cost the same, 5 for each of seven facts and 9 for the opposite of the goal, and have as many
+// facts: so the goals rise.
+fn step(set: u8) -> Taken {
+    let goal = all_yes(fillings::bit(choice_of(set)));
     Taken {
-        found: n < SETS,
         goal,
-        reasons: all_yes(facts_of(n)),
+        reasons: all_yes(facts_of(set)),
         new: goal,
         cost: 44,
         tied: true,
@@ -86,14 +70,11 @@ fn step(n: u8) -> Taken {
     }
 }
 
-// Its log.
+// Its log. After the last set nothing is left.
 pub fn log() -> Log {
-    let mut log = logs::begun(all_yes(fillings::first(FACTS as usize)));
-    let records = limits::RECORDS;
-    for n in 0..records {
-        if !log.ended {
-            log = logs::onward(log, step(n));
-        }
+    let mut log = logs::begun(all_yes(fillings::first(usize::from(FACTS))));
+    for set in 0..SETS {
+        log = logs::onward(log, Some(step(set)));
     }
-    log
+    logs::onward(log, None)
 }

@@ -16,77 +16,87 @@ mod run;
 mod wrong;
 
 use breaks::Ways;
+use engine_checks::question::Question;
 use made_books::Form;
-use samples::{build, windows};
+use run::Run;
+use std::io;
 
-fn orders() {
-    run::show(
-        b"book P with the log of document 01, broken at every byte:\n",
-        counter::book_p(run::none()),
-    );
-    run::show(
-        b"the orders at the counter, their logs reckoned:\n",
-        counter::orders(run::none()),
-    );
+fn orders(rt: &impl Print) -> io::Result<()> {
+    let mut r = Run::new();
+    counter::book_p(&mut r);
+    r.show(
+        rt,
+        "book P with the log of document 01, broken at every byte:",
+    )?;
+    let mut r = Run::new();
+    counter::orders(&mut r);
+    r.show(rt, "the orders at the counter, their logs reckoned:")
 }
 
 // A book whose log is longer than any that is reckoned.
-fn long_log() {
+fn long_log(rt: &impl Print) -> io::Result<()> {
     let d = long::book();
-    let bytes = d.bytes;
-    let s = build::part(&bytes, d.len);
-    let m = windows::drawn_moment(d.seed);
-    run::show(
-        b"a book with a long log that is known from how it is made:\n",
-        books::with_log(run::none(), s, m, long::log(), Ways::All, d.seed),
+    let mut r = Run::new();
+    books::with_log(
+        &mut r,
+        Question::of_draft(&d),
+        &long::log(),
+        Ways::All,
+        d.seed,
     );
+    r.show(
+        rt,
+        "a book with a long log that is known from how it is made:",
+    )
 }
 
 // Books of several forms, some of them without a model or refused.
-fn made_up() {
+fn made_up(rt: &impl Print) -> io::Result<()> {
+    let mut r = Run::new();
     let any = made_books::of_form(Form::Any, 6, 6, 9);
-    let r = books::each(run::none(), 100, any, 577215664901532860);
+    books::each(&mut r, 100, any, 577215664901532860);
     let edited = made_books::of_form(Form::Edited, 6, 6, 9);
-    let r = books::each(r, 60, edited, 314159265358979323);
+    books::each(&mut r, 60, edited, 314159265358979323);
     let planted = made_books::of_form(Form::Planted, 10, 8, 999);
-    let r = books::each(r, 120, planted, 141421356237309504);
+    books::each(&mut r, 120, planted, 141421356237309504);
     let larger = made_books::of_form(Form::Planted, 12, 10, 99);
-    let r = books::each(r, 60, larger, 244948974278317809);
+    books::each(&mut r, 60, larger, 244948974278317809);
     let several = made_books::of_form(Form::Several, 8, 8, 3);
-    let r = books::each(r, 80, several, 173205080756887729);
+    books::each(&mut r, 80, several, 173205080756887729);
     let core = made_books::of_form(Form::Core, 10, 7, 9);
-    let r = books::each(r, 40, core, 223606797749978969);
+    books::each(&mut r, 40, core, 223606797749978969);
     let dense = made_books::of_form(Form::Dense, 8, 6, 9);
-    let r = books::each(r, 60, dense, 264575131106459059);
-    run::show(b"books made up, their logs reckoned:\n", r);
+    books::each(&mut r, 60, dense, 264575131106459059);
+    r.show(rt, "books made up, their logs reckoned:")
 }
 
 // Books with windows.
-fn windowed() {
+fn windowed(rt: &impl Print) -> io::Result<()> {
+    let mut r = Run::new();
     let any = made_books::of_form(Form::Any, 6, 6, 9);
-    let r = books::each_windowed(run::none(), 30, any, 331662479035539984);
+    books::each_windowed(&mut r, 30, any, 331662479035539984);
     let planted = made_books::of_form(Form::Planted, 10, 8, 3);
-    let r = books::each_windowed(r, 30, planted, 161803398874989484);
+    books::each_windowed(&mut r, 30, planted, 161803398874989484);
     let several = made_books::of_form(Form::Several, 8, 8, 9);
-    let r = books::each_windowed(r, 30, several, 271828182845904523);
-    run::show(
-        b"books with windows at their edges, the logs of the rules in force reckoned:\n",
-        r,
-    );
+    books::each_windowed(&mut r, 30, several, 271828182845904523);
+    let heading = "books with windows at their edges, the logs of the rules in force reckoned:";
+    r.show(rt, heading)
 }
 
 // Books that no reckoning goes through.
-fn large_books() {
-    run::show(
-        b"large books, held against the engine's own unbroken logs:\n",
-        large::each(run::none(), 12),
-    );
+fn large_books(rt: &impl Print) -> io::Result<()> {
+    let mut r = Run::new();
+    large::each(&mut r, 12);
+    r.show(
+        rt,
+        "large books, held against the engine's own unbroken logs:",
+    )
 }
 
-fn main() {
-    orders();
-    long_log();
-    made_up();
-    windowed();
-    large_books();
+fn main(rt: HostRuntime) -> io::Result<()> {
+    orders(&rt)?;
+    long_log(&rt)?;
+    made_up(&rt)?;
+    windowed(&rt)?;
+    large_books(&rt)
 }

@@ -1,36 +1,11 @@
 // What was met: how many logs, how long they are, and where the breaks fell.
 use crate::rooms;
-use engine_checks::{counts, report};
-use samples::build::Draft;
-use samples::{build, limits};
+use readings::counts;
+use samples::limits;
+use std::io;
 
-// The breaks are counted by place: before the first byte, inside a step's record, between two records, inside OK, after the last byte.
-#[derive(Clone, Copy)]
-pub struct Met {
-    pub logs: u64,
-    pub shortest: usize,
-    pub longest: usize,
-    pub before: u64,
-    pub in_steps: u64,
-    pub between: u64,
-    pub in_ok: u64,
-    pub after: u64,
-}
-
-pub fn nothing() -> Met {
-    Met {
-        logs: 0,
-        shortest: limits::LOG,
-        longest: 0,
-        before: 0,
-        in_steps: 0,
-        between: 0,
-        in_ok: 0,
-        after: 0,
-    }
-}
-
-#[derive(Clone, Copy)]
+// Where a break falls: before the first byte, inside a step's record, between two records, inside OK, after the last byte.
+#[derive(Clone, Copy, Debug, PartialEq, Eq)]
 enum Place {
     Before,
     InStep,
@@ -39,101 +14,89 @@ enum Place {
     After,
 }
 
-fn sum(a: usize, b: usize) -> usize {
-    std::num::wrapping_add_usize(a, b)
+impl Place {
+    const COUNT: usize = 5;
+
+    // Where a break before the byte with so many before it falls. OK has seven bytes.
+    fn of(log: &[u8], n: usize) -> Place {
+        if n == 0 {
+            Place::Before
+        } else if n == log.len() {
+            Place::After
+        } else if log.len() < n.wrapping_add(7) {
+            Place::InOk
+        } else if begins_record(log, n) {
+            Place::Between
+        } else {
+            Place::InStep
+        }
+    }
 }
 
-fn count_at(log: &[u8], place: usize) -> usize {
-    rooms::byte_at(log, place) as usize
+// The logs, the bytes of the shortest and of the longest, and the breaks by their place.
+#[derive(Clone, Copy)]
+pub struct Met {
+    logs: u64,
+    shortest: usize,
+    longest: usize,
+    breaks: [u64; Place::COUNT],
 }
 
 // Where the record of a step ends that begins at a place: seven bytes, its reasons and what is new. The count of the reasons is its
 // fourth byte, and that of what is new comes after them.
 fn record_end(log: &[u8], place: usize) -> usize {
-    let reasons = count_at(log, sum(place, 3));
-    let new = count_at(log, sum(sum(place, 4), reasons));
-    sum(sum(place, 7), sum(reasons, new))
+    let reasons = usize::from(rooms::byte_at(log, place.wrapping_add(3)));
+    let new = usize::from(rooms::byte_at(log, place.wrapping_add(4 + reasons)));
+    place.wrapping_add(7 + reasons + new)
 }
 
 // Whether a record begins at a byte that is no later than OK.
 fn begins_record(log: &[u8], n: usize) -> bool {
-    let mut at: usize = 0;
-    let records = limits::RECORDS;
-    for i in 0..records {
-        if at < n {
-            at = record_end(log, at);
+    let mut at = 0;
+    for _ in 0..limits::RECORDS {
+        if at >= n {
+            break;
         }
+        at = record_end(log, at);
     }
     at == n
 }
 
-// Where a break falls. OK has seven bytes.
-fn place_of(log: &[u8], n: usize) -> Place {
-    if n == 0 {
-        return Place::Before;
+impl Met {
+    pub fn new() -> Met {
+        Met {
+            logs: 0,
+            shortest: limits::LOG,
+            longest: 0,
+            breaks: [0; Place::COUNT],
+        }
     }
-    if n == log.len() {
-        return Place::After;
-    }
-    if log.len() < sum(n, 7) {
-        return Place::InOk;
-    }
-    if begins_record(log, n) {
-        Place::Between
-    } else {
-        Place::InStep
-    }
-}
 
-// One break more.
-fn broken(mut met: Met, place: Place) -> Met {
-    match place {
-        Place::Before => met.before = counts::more(met.before),
-        Place::InStep => met.in_steps = counts::more(met.in_steps),
-        Place::Between => met.between = counts::more(met.between),
-        Place::InOk => met.in_ok = counts::more(met.in_ok),
-        Place::After => met.after = counts::more(met.after),
+    // One log more, broken at every byte.
+    pub fn see(&mut self, log: &[u8]) {
+        counts::count(&mut self.logs, true);
+        self.shortest = self.shortest.min(log.len());
+        self.longest = self.longest.max(log.len());
+        for n in 0..=log.len() {
+            counts::count(&mut self.breaks[Place::of(log, n) as usize], true);
+        }
     }
-    met
-}
 
-// One log more.
-fn with_log(mut met: Met, size: usize) -> Met {
-    met.logs = counts::more(met.logs);
-    if size < met.shortest {
-        met.shortest = size;
+    // How many breaks fell there.
+    fn at(&self, place: Place) -> u64 {
+        self.breaks[place as usize]
     }
-    if met.longest < size {
-        met.longest = size;
+
+    pub fn show(&self, rt: &impl Print) -> io::Result<()> {
+        print!(rt;
+            "logs: {}, bytes of the shortest: {}",
+            self.logs, self.shortest
+        )?;
+        println!(rt; ", of the longest: {}", self.longest)?;
+        print!(rt; "breaks before the first byte: {}", self.at(Place::Before))?;
+        print!(rt; ", inside a step: {}", self.at(Place::InStep))?;
+        print!(rt; ", between records: {}", self.at(Place::Between))?;
+        print!(rt; ", inside OK: {}", self.at(Place::InOk))?;
+        println!(rt; ", after the last byte: {}", self.at(Place::After))
     }
-    met
-}
-
-// One log more, broken at every byte.
-pub fn seen(met: Met, log: Draft) -> Met {
-    let bytes = log.bytes;
-    let row = build::part(&bytes, log.len);
-    let mut after = with_log(met, row.len());
-    let end = sum(row.len(), 1);
-    for n in 0..end {
-        after = broken(after, place_of(row, n));
-    }
-    after
-}
-
-fn count(name: &[u8], n: u64) {
-    report::write(name);
-    report::number(n);
-}
-
-pub fn show(met: Met) {
-    count(b"logs: ", met.logs);
-    count(b", bytes of the shortest: ", met.shortest as u64);
-    count(b", of the longest: ", met.longest as u64);
-    count(b"\nbreaks before the first byte: ", met.before);
-    count(b", inside a step: ", met.in_steps);
-    count(b", between records: ", met.between);
-    count(b", inside OK: ", met.in_ok);
-    count(b", after the last byte: ", met.after);
-    report::write(b"\n");
 }

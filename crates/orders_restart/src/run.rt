@@ -1,8 +1,7 @@
 // What was compared, group by group, and what was met.
-use crate::met;
 use crate::met::Met;
-use engine_checks::counts::Counts;
-use engine_checks::{counts, report};
+use readings::counts::Counts;
+use std::io;
 
 #[derive(Clone, Copy)]
 pub struct Run {
@@ -16,41 +15,40 @@ pub struct Run {
     pub met: Met,
 }
 
-pub fn none() -> Run {
-    let nothing = counts::none();
-    Run {
-        carried: nothing,
-        wrong: nothing,
-        over: nothing,
-        short: nothing,
-        without: nothing,
-        refused: nothing,
-        left_out: 0,
-        met: met::nothing(),
+impl Run {
+    pub fn new() -> Run {
+        let nothing = Counts::default();
+        Run {
+            carried: nothing,
+            wrong: nothing,
+            over: nothing,
+            short: nothing,
+            without: nothing,
+            refused: nothing,
+            left_out: 0,
+            met: Met::new(),
+        }
     }
-}
 
-// A line where something was tried.
-fn line(name: &[u8], c: Counts) {
-    if c.tried > 0 {
-        counts::line(name, c);
+    // What was seen, under a heading, with an empty line after it. A line where something was tried.
+    pub fn show(&self, rt: &impl Print, heading: &str) -> io::Result<()> {
+        println!(rt; "{heading}")?;
+        for (name, counts) in [
+            ("broken log carried on", self.carried),
+            ("wrong byte before the break, 15", self.wrong),
+            ("number over the log's length, 15", self.over),
+            ("short buffer with any number, 8", self.short),
+            ("no model with any number, 9", self.without),
+            ("book or moment refused, with any number", self.refused),
+        ] {
+            if counts.tried > 0 {
+                println!(rt; "{name}: {counts}")?;
+            }
+        }
+        if self.left_out > 0 {
+            println!(rt; "books left out: {}", self.left_out)?;
+        }
+        self.met.show(rt)?;
+        println!(rt; "")
     }
-}
-
-// What was seen, under a heading, with an empty line after it.
-pub fn show(heading: &[u8], r: Run) {
-    report::write(heading);
-    line(b"broken log carried on", r.carried);
-    line(b"wrong byte before the break, 15", r.wrong);
-    line(b"number over the log's length, 15", r.over);
-    line(b"short buffer with any number, 8", r.short);
-    line(b"no model with any number, 9", r.without);
-    line(b"book or moment refused, with any number", r.refused);
-    if r.left_out > 0 {
-        report::write(b"books left out: ");
-        report::number(r.left_out);
-        report::write(b"\n");
-    }
-    met::show(r.met);
-    report::write(b"\n");
 }

@@ -3,67 +3,108 @@
 // many the two differ. Other lines count what was met on the way.
 #![tactic(auto)]
 
-mod groups;
 mod retyped;
 mod retyped_asked;
 mod spread_walks;
 
+use engine_checks::report;
 use engine_checks::tally::Tally;
-use engine_checks::{report, tally};
-use groups::Task;
-use made_books::Form;
+use made_books::{Books, Form, Kind};
+use samples::random;
+use std::io;
 
-// Books with a model planted, with small costs and with any, books with a core, circuits, and books with ties.
-fn in_which_much_follows(t: Tally, what: Task, books: u32) -> Tally {
-    let small = made_books::of_form(Form::Planted, 10, 6, 2);
-    let t = groups::each(t, what, books, small, 449999989449999989);
-    let costly = made_books::of_form(Form::Planted, 10, 7, 999);
-    let t = groups::each(t, what, books, costly, 179424673179424673);
-    let core = made_books::of_form(Form::Core, 10, 7, 9);
-    let t = groups::each(t, what, books, core, 982451653982451653);
-    let dense = made_books::of_form(Form::Dense, 10, 5, 3);
-    let t = groups::each(t, what, books, dense, 633910099633910099);
-    let circuits = made_books::of_form(Form::Circuit, 14, 10, 3);
-    let t = groups::each(t, what, books, circuits, 715225741715225741);
-    let ties = made_books::of_form(Form::Ties, 10, 8, 2);
-    groups::each(t, what, books, ties, 573259391573259391)
+// Books in which much follows, and the seed of the first of each kind: with a model planted, with small costs and with any, with a
+// core, dense ones, circuits, and books with ties.
+fn in_which_much_follows() -> [(Kind, u64); 6] {
+    [
+        (
+            made_books::of_form(Form::Planted, 10, 6, 2),
+            449999989449999989,
+        ),
+        (
+            made_books::of_form(Form::Planted, 10, 7, 999),
+            179424673179424673,
+        ),
+        (
+            made_books::of_form(Form::Core, 10, 7, 9),
+            982451653982451653,
+        ),
+        (
+            made_books::of_form(Form::Dense, 10, 5, 3),
+            633910099633910099,
+        ),
+        (
+            made_books::of_form(Form::Circuit, 14, 10, 3),
+            715225741715225741,
+        ),
+        (
+            made_books::of_form(Form::Ties, 10, 8, 2),
+            573259391573259391,
+        ),
+    ]
 }
 
 // Steps and logs of books of up to fourteen variables and ten choices that are spread over the most: small ones, some of them
 // without a model, and others in which more follows.
-fn walked_spread() {
-    let any = made_books::of_form(Form::Any, 10, 8, 9);
-    let t = groups::each(tally::none(), Task::Spread, 600, any, 602214076602214076);
-    let t = in_which_much_follows(t, Task::Spread, 200);
+fn walked_spread(rt: &impl Print) -> io::Result<()> {
+    let mut t = Tally::new();
+    for d in Books::from_seed(made_books::of_form(Form::Any, 10, 8, 9), 602214076602214076).take(
+        600,
+    ) {
+        spread_walks::count(&mut t, &d);
+    }
+    for (like, start) in in_which_much_follows() {
+        for d in Books::from_seed(like, start).take(200) {
+            spread_walks::count(&mut t, &d);
+        }
+    }
     report::all(
-        b"books spread over 48 variables and 32 choices, walked:\n",
-        t,
-    );
+        rt,
+        "books spread over 48 variables and 32 choices, walked:",
+        &t,
+    )
 }
 
 // Books of up to fourteen variables and the same retyped: small ones, some of them without a model, and others in
 // which more follows; most have helpers.
-fn retyped_pairs() {
-    let any = made_books::of_form(Form::Any, 10, 7, 3);
-    let t = groups::each(tally::none(), Task::Retyped, 2400, any, 668265263668265263);
-    let t = in_which_much_follows(t, Task::Retyped, 1200);
+fn retyped_pairs(rt: &impl Print) -> io::Result<()> {
+    let mut t = Tally::new();
+    for d in Books::from_seed(made_books::of_form(Form::Any, 10, 7, 3), 668265263668265263).take(
+        2400,
+    ) {
+        retyped::count(&mut t, &d);
+    }
+    for (like, start) in in_which_much_follows() {
+        for d in Books::from_seed(like, start).take(1200) {
+            retyped::count(&mut t, &d);
+        }
+    }
     report::all(
-        b"books retyped, the answers to one held against those to the other:\n",
-        t,
-    );
+        rt,
+        "books retyped, the answers to one held against those to the other:",
+        &t,
+    )
 }
 
-// What the comparison would show if the fillings of the choices were not the same.
-fn other_rules() {
-    let t = in_which_much_follows(tally::none(), Task::OtherRules, 300);
+// What the comparison would show if the fillings of the choices were not the same: each book with the rules of the one after it.
+fn other_rules(rt: &impl Print) -> io::Result<()> {
+    let mut t = Tally::new();
+    for (like, start) in in_which_much_follows() {
+        let mut d = made_books::book(like, start);
+        for next in Books::from_seed(like, random::next(d.seed)).take(300) {
+            retyped::count_others(&mut t, &d, &next);
+            d = next;
+        }
+    }
     report::all(
-        b"control, books with the rules of others, whose logs are expected to differ:\n",
-        t,
-    );
+        rt,
+        "control, books with the rules of others, whose logs are expected to differ:",
+        &t,
+    )
 }
 
-fn main() {
-    walked_spread();
-    retyped_pairs();
-    other_rules();
+fn main(rt: HostRuntime) -> io::Result<()> {
+    walked_spread(&rt)?;
+    retyped_pairs(&rt)?;
+    other_rules(&rt)
 }

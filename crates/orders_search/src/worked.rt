@@ -1,18 +1,14 @@
 // Orders at the counter whose logs document 01 or 02 gives or settles in words: the reckoned log held against these bytes.
 use brute_force::{fillings, logs};
-use engine_checks::tally;
-use engine_checks::tally::Tally;
+use engine_checks::tally::{Group, Tally};
 use samples::build::Draft;
 use samples::{build, counter, reckon};
 
 // The reckoned log of a good book.
-fn reckoned_log(d: Draft) -> Draft {
-    let bytes = d.bytes;
-    let b = reckon::reckon(build::part(&bytes, d.len));
-    let obeying = fillings::obeying(b);
-    let room = obeying.room;
-    let log = logs::whole(fillings::part(&room, obeying.count), b);
-    log.written
+fn reckoned_log(d: &Draft) -> Option<Draft> {
+    let b = reckon::reckon(d.as_slice()).ok()?;
+    let all = fillings::obeying(&b)?;
+    Some(logs::whole(all.as_slice(), &b).written)
 }
 
 // The log of an order that has one. A letter of another one has no bytes.
@@ -54,19 +50,16 @@ pub fn log_of_higher_goal() -> Draft {
 }
 
 // One more order and its log.
-fn book(t: Tally, d: Draft, due: Draft) -> Tally {
-    let agrees = build::same_drafts(reckoned_log(d), due);
-    tally::noted(t, tally::WORKED, agrees)
-}
-
-fn one(t: Tally, letter: u8) -> Tally {
-    book(t, counter::order(letter), log_of(letter))
+fn book(t: &mut Tally, d: Draft, due: Draft) {
+    let agrees = reckoned_log(&d).is_some_and(|log| log.as_slice() == due.as_slice());
+    t.note(Group::Worked, agrees);
 }
 
 // Book P, the orders d, g, h and i, and the two of E6.
-pub fn all(t: Tally) -> Tally {
-    let t = one(one(t, b'c'), b'd');
-    let t = one(one(one(t, b'g'), b'h'), b'i');
-    let t = book(t, counter::fewer_facts(), log_of_fewer_facts());
-    book(t, counter::higher_goal(), log_of_higher_goal())
+pub fn all(t: &mut Tally) {
+    for letter in *b"cdghi" {
+        book(t, counter::order(letter), log_of(letter));
+    }
+    book(t, counter::fewer_facts(), log_of_fewer_facts());
+    book(t, counter::higher_goal(), log_of_higher_goal());
 }

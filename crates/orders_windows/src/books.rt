@@ -1,106 +1,94 @@
 // Books with windows at the moments at every edge of their windows: what the engine answers to each, held against what is
 // reckoned of the book of the rules then in force.
 use crate::moments;
+use engine_checks::question::Question;
 use engine_checks::tally::Tally;
-use engine_checks::{compare, counts, report, tally, walks};
+use engine_checks::{compare, report, walks};
 use made_books::seasons::Season;
 use made_books::windowed::Windowed;
-use made_books::{Kind, windowed};
+use made_books::{Books, Kind, windowed};
+use readings::counts;
 use samples::build::Draft;
-use samples::windows::Moment;
-use samples::{build, random, reckon, windows};
+use samples::{random, reckon, windows};
+use std::io;
 
 // What was compared; and how many moments there were that cannot be, or at which all rules are in force, some, and none.
 #[derive(Clone, Copy)]
 pub struct Run {
-    pub tally: Tally,
-    pub impossible: u64,
-    pub all: u64,
-    pub some: u64,
-    pub none: u64,
+    tally: Tally,
+    impossible: u64,
+    all: u64,
+    some: u64,
+    none: u64,
 }
 
-pub fn none() -> Run {
-    Run {
-        tally: tally::none(),
-        impossible: 0,
-        all: 0,
-        some: 0,
-        none: 0,
+impl Run {
+    pub fn new() -> Run {
+        Run {
+            tally: Tally::new(),
+            impossible: 0,
+            all: 0,
+            some: 0,
+            none: 0,
+        }
     }
-}
 
-// One moment more at which so many of the rules are in force.
-fn seen(mut r: Run, rules: usize, in_force: usize) -> Run {
-    if in_force == rules {
-        r.all = counts::more(r.all);
-    } else if in_force == 0 {
-        r.none = counts::more(r.none);
-    } else {
-        r.some = counts::more(r.some);
+    // One moment more at which so many of the rules are in force.
+    fn see(&mut self, rules: usize, in_force: usize) {
+        let n = if in_force == rules {
+            &mut self.all
+        } else if in_force == 0 {
+            &mut self.none
+        } else {
+            &mut self.some
+        };
+        counts::count(n, true);
     }
-    r
-}
 
-// The answers at a moment, held against the book of the rules then in force.
-fn compared(mut r: Run, s: &[u8], m: Moment, plain: Draft) -> Run {
-    let bytes = plain.bytes;
-    let in_force = reckon::reckon(build::part(&bytes, plain.len));
-    let read = reckon::reckon(s);
-    let before = r.tally;
-    let t = compare::count_at(before, s, m, read, in_force);
-    let t = walks::count_at(t, s, m, in_force, random::next(plain.seed));
-    r.tally = t;
-    seen(r, read.rules, in_force.rules)
-}
-
-// One moment.
-fn at(mut r: Run, s: &[u8], b: Windowed, m: Moment) -> Run {
-    if windows::is_moment(m) {
-        return compared(r, s, m, windowed::in_force_at(b, m));
+    // The answers at a moment, held against the book of the rules then in force.
+    fn compare(&mut self, q: Question<'_>, plain: &Draft) {
+        let read = reckon::reckon(q.book);
+        let in_force = reckon::reckon(plain.as_slice());
+        if let (Ok(whole), Ok(b)) = (&read, &in_force) {
+            compare::count_at(&mut self.tally, q, &read, b);
+            self.see(whole.rules.len(), b.rules.len());
+        }
+        walks::count_at(&mut self.tally, q, &in_force, random::next(plain.seed));
     }
-    let before = r.tally;
-    let t = moments::refused(before, s, m);
-    r.tally = t;
-    r.impossible = counts::more(r.impossible);
-    r
-}
 
-// The moments at the edges of all windows of a book.
-pub fn each_edge(r: Run, b: Windowed) -> Run {
-    let d = windowed::typed(b);
-    let bytes = d.bytes;
-    let s = build::part(&bytes, d.len);
-    let mut after = r;
-    let end = Windowed::EDGES;
-    for n in 0..end {
-        after = at(after, s, b, windowed::edge(b, n));
+    // The moments at the edges of all windows of a book.
+    fn each_edge(&mut self, b: Windowed) {
+        let d = windowed::typed(b);
+        for n in 0..Windowed::EDGES {
+            let moment = windowed::edge(b, n);
+            let q = Question::of_draft(&d).at(moment);
+            if windows::is_moment(moment) {
+                self.compare(q, &windowed::in_force_at(b, moment));
+            } else {
+                moments::refused(&mut self.tally, q);
+                counts::count(&mut self.impossible, true);
+            }
+        }
     }
-    after
-}
 
-// So many books of a kind, with windows of another.
-pub fn each(r: Run, books: u32, kind: Kind, season: Season, start: u64) -> Run {
-    let mut after = r;
-    let mut d = made_books::book(kind, start);
-    for i in 0..books {
-        after = each_edge(after, windowed::of_book(d, season));
-        d = made_books::book(kind, random::next(d.seed));
+    // So many books of a kind, with windows of another.
+    pub fn each(&mut self, books: usize, kind: Kind, season: Season, start: u64) {
+        for d in Books::from_seed(kind, start).take(books) {
+            self.each_edge(windowed::of_book(d, season));
+        }
     }
-    after
-}
 
-// What was seen, under a heading.
-pub fn show(heading: &[u8], r: Run) {
-    let t = r.tally;
-    report::write(heading);
-    report::write(b"moments at which all rules are in force: ");
-    report::number(r.all);
-    report::write(b", some: ");
-    report::number(r.some);
-    report::write(b", none: ");
-    report::number(r.none);
-    report::write(b"; moments that cannot be: ");
-    report::number(r.impossible);
-    report::all(b"\n", t);
+    // What was seen, under a heading.
+    pub fn show(&self, rt: &impl Print, heading: &str) -> io::Result<()> {
+        println!(rt; "{heading}")?;
+        print!(rt;
+            "moments at which all rules are in force: {}, some: {}",
+            self.all, self.some
+        )?;
+        print!(rt;
+            ", none: {}; moments that cannot be: {}",
+            self.none, self.impossible
+        )?;
+        report::all(rt, "", &self.tally)
+    }
 }

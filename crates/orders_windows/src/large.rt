@@ -1,156 +1,85 @@
 // Books too large for the reckoning, with windows: what the engine answers to each at the edges of its windows, held against
 // what it answers to the book of the rules then in force, which has no windows.
-use brute_force::fillings;
-use engine::ModelAnswer;
-use engine_checks::counts::Counts;
-use engine_checks::{asked, asked_log, compare, counts, report};
+use engine_checks::asked_log;
+use engine_checks::question::Question;
 use made_books::seasons::Season;
 use made_books::windowed::Windowed;
 use made_books::{made, windowed};
-use samples::build::Draft;
-use samples::windows::Moment;
+use readings::counts;
+use readings::counts::Counts;
+use samples::reckon::Literals;
 use samples::{build, random, reckon, windows};
+use std::io;
 
 // What was compared, and at how many moments the log is another one than with all rules in force.
-#[derive(Clone, Copy)]
+#[derive(Clone, Copy, Debug, Default)]
 pub struct Run {
-    pub models: Counts,
-    pub consequences: Counts,
-    pub steps: Counts,
-    pub logs: Counts,
-    pub others: u64,
+    models: Counts,
+    consequences: Counts,
+    steps: Counts,
+    logs: Counts,
+    others: u64,
 }
 
-fn none() -> Run {
-    let nothing = counts::none();
-    Run {
-        models: nothing,
-        consequences: nothing,
-        steps: nothing,
-        logs: nothing,
-        others: 0,
+// Whether the steps from the given facts are the same.
+fn steps_agree(q: Question<'_>, plain: Question<'_>) -> bool {
+    let facts = reckon::reckon(plain.book).map_or(Literals::default(), |b| b.facts);
+    q.next_step(facts) == plain.next_step(facts)
+}
+
+impl Run {
+    // The book with windows and the one of the rules in force.
+    fn compare(&mut self, q: Question<'_>, plain: Question<'_>) {
+        self.models.note(q.model() == plain.model());
+        self.consequences
+            .note(q.consequence() == plain.consequence());
+        self.steps.note(steps_agree(q, plain));
+        self.logs.note(asked_log::same_log(q, plain));
     }
-}
 
-// Whether two answers are the same model or the same refusal.
-fn same_model(a: ModelAnswer, b: ModelAnswer) -> bool {
-    match a {
-        ModelAnswer::Model(m) => match b {
-            ModelAnswer::Model(o) => m == o,
-            _ => false,
-        },
-        ModelAnswer::Refused { number, place } => match b {
-            ModelAnswer::Refused {
-                number: other,
-                place: there,
-            } => number == other && place == there,
-            _ => false,
-        },
+    // The moments at the edges of all windows of a book. Those that cannot be are tried elsewhere.
+    fn each_edge(&mut self, b: Windowed) {
+        let d = windowed::typed(b);
+        for n in 0..Windowed::EDGES {
+            let moment = windowed::edge(b, n);
+            if windows::is_moment(moment) {
+                let q = Question::of_draft(&d).at(moment);
+                let other = !asked_log::same_log(q, q.of(b.plain.as_slice()));
+                counts::count(&mut self.others, other);
+                self.compare(q, q.of(windowed::in_force_at(b, moment).as_slice()));
+            }
+        }
     }
-}
 
-fn models_agree(s: &[u8], plain: &[u8], m: Moment) -> bool {
-    let at = readings::moment_of(m);
-    same_model(engine::model(s, at), engine::model(plain, at))
-}
-
-fn consequences_agree(s: &[u8], plain: &[u8], m: Moment) -> bool {
-    let due = compare::consequence_said(plain, m);
-    compare::same_consequence(compare::consequence_said(s, m), due)
-}
-
-// The steps from the given facts.
-fn steps_agree(s: &[u8], plain: &[u8], m: Moment) -> bool {
-    let facts = fillings::facts(reckon::reckon(plain));
-    asked::same(asked::answer(s, m, facts), asked::answer(plain, m, facts))
-}
-
-// Whether the log of a book with windows is another one than with all its rules in force.
-fn is_other(s: &[u8], all: Draft, m: Moment) -> bool {
-    let bytes = all.bytes;
-    !asked_log::same_log(s, build::part(&bytes, all.len), m)
-}
-
-// The book with windows and the one of the rules in force.
-fn compared(r: Run, s: &[u8], plain: &[u8], m: Moment, other: bool) -> Run {
-    let models = counts::noted(r.models, models_agree(s, plain, m));
-    let consequences = counts::noted(r.consequences, consequences_agree(s, plain, m));
-    let steps = counts::noted(r.steps, steps_agree(s, plain, m));
-    let logs = counts::noted(r.logs, asked_log::same_log(s, plain, m));
-    let others = if other {
-        counts::more(r.others)
-    } else {
-        r.others
-    };
-    Run {
-        models,
-        consequences,
-        steps,
-        logs,
-        others,
+    // What was seen, under a heading.
+    pub fn show(&self, rt: &impl Print, heading: &str) -> io::Result<()> {
+        println!(rt; "{heading}")?;
+        println!(rt; "same first model: {}", self.models)?;
+        println!(rt; "same consequence: {}", self.consequences)?;
+        println!(rt; "same step from the facts: {}", self.steps)?;
+        println!(rt; "same log: {}", self.logs)?;
+        print!(rt; "moments at which the log is another one than with all rules in force: ")?;
+        println!(rt; "{}", self.others)
     }
-}
-
-// One moment. Those that cannot be are tried elsewhere.
-fn at(r: Run, s: &[u8], b: Windowed, m: Moment) -> Run {
-    if !windows::is_moment(m) {
-        return r;
-    }
-    let plain = windowed::in_force_at(b, m);
-    let bytes = plain.bytes;
-    let other = is_other(s, b.plain, m);
-    compared(r, s, build::part(&bytes, plain.len), m, other)
-}
-
-// The moments at the edges of all windows of a book.
-fn each_edge(r: Run, b: Windowed) -> Run {
-    let d = windowed::typed(b);
-    let bytes = d.bytes;
-    let s = build::part(&bytes, d.len);
-    let mut after = r;
-    let end = Windowed::EDGES;
-    for n in 0..end {
-        after = at(after, s, b, windowed::edge(b, n));
-    }
-    after
 }
 
 // The longest book that there is.
 fn longest() -> Windowed {
-    let plain = build::longest(false);
-    let a = windows::nth(3);
-    let b = windows::nth(30);
-    let c = windows::nth(60);
-    let d = windows::nth(90);
-    let e = windows::nth(120);
-    let windows = [a, b, c, d, e];
-    Windowed { plain, windows }
+    Windowed {
+        plain: build::longest(false),
+        windows: [3, 30, 60, 90, 120].map(|n| Some(windows::nth(n))),
+    }
 }
 
-// Books that have a model with all rules in force, and so at every moment.
-fn large_books(r: Run, books: u32) -> Run {
-    let mut after = r;
+// The longest book, and so many that have a model with all rules in force, and so at every moment.
+pub fn all(books: u32) -> Run {
+    let mut r = Run::default();
+    r.each_edge(longest());
     let mut seed = 299792458299792458;
-    for i in 0..books {
+    for _ in 0..books {
         let d = made::book(seed, made::largest_shape(seed));
-        after = each_edge(after, windowed::of_book(d, Season::Any));
+        r.each_edge(windowed::of_book(d, Season::Any));
         seed = random::next(d.seed);
     }
-    after
-}
-
-pub fn all(books: u32) -> Run {
-    large_books(each_edge(none(), longest()), books)
-}
-
-// What was seen, under a heading.
-pub fn show(heading: &[u8], r: Run) {
-    report::write(heading);
-    counts::line(b"same first model", r.models);
-    counts::line(b"same consequence", r.consequences);
-    counts::line(b"same step from the facts", r.steps);
-    counts::line(b"same log", r.logs);
-    report::write(b"moments at which the log is another one than with all rules in force: ");
-    report::number(r.others);
-    report::write(b"\n");
+    r
 }

@@ -9,72 +9,79 @@ mod large;
 mod moments;
 
 use books::Run;
-use engine_checks::{counts, report, tally};
+use engine_checks::report;
+use engine_checks::tally::Tally;
 use made_books::Form;
 use made_books::seasons::Season;
+use std::io;
 
 // The days from 1 January 2000 to 31 December 2099.
-fn calendar() {
-    report::write(b"the calendar:\n");
-    counts::line(b"numbers and weekdays of days", days::numbers());
-    counts::line(b"days in their order", days::orders());
-    counts::line(b"dates that can be", days::dates_that_can_be());
-    counts::line(b"minutes that can be", moments::minutes());
-    report::write(b"\n");
+fn calendar(rt: &impl Print) -> io::Result<()> {
+    println!(rt; "the calendar:")?;
+    println!(rt; "numbers and weekdays of days: {}", days::numbers())?;
+    println!(rt; "days in their order: {}", days::orders())?;
+    println!(rt; "dates that can be: {}", days::dates_that_can_be())?;
+    println!(rt; "minutes that can be: {}", moments::minutes())?;
+    println!(rt; "")
 }
 
-fn no_moments() {
-    let t = moments::all(tally::none());
+fn no_moments(rt: &impl Print) -> io::Result<()> {
+    let mut t = Tally::new();
+    moments::all(&mut t);
     report::all(
-        b"moments that cannot be, 14 at 0 whatever the book and the buffer are:\n",
-        t,
-    );
+        rt,
+        "moments that cannot be, 14 at 0 whatever the book and the buffer are:",
+        &t,
+    )
 }
 
-// Books of several forms, some of them without a model, with windows of one kind.
-fn of_season(r: Run, season: Season) -> Run {
+// Books of several forms, some of them without a model, with windows of one kind: windows that leave out days, weekdays, minutes, all
+// three, or nothing.
+fn windowed(rt: &impl Print) -> io::Result<()> {
     let any = made_books::of_form(Form::Any, 6, 6, 9);
-    let r = books::each(r, 20, any, season, 577215664901532860);
     let planted = made_books::of_form(Form::Planted, 10, 8, 3);
-    books::each(r, 10, planted, season, 141421356237309504)
-}
-
-// Windows that leave out days, weekdays, minutes, all three, or nothing.
-fn windowed() {
-    let r = of_season(of_season(books::none(), Season::Never), Season::Days);
-    let r = of_season(of_season(r, Season::Weekdays), Season::Minutes);
-    books::show(
-        b"books with windows of one kind, at the edges of their windows:\n",
-        of_season(r, Season::Each),
-    );
+    let mut r = Run::new();
+    for season in [
+        Season::Never,
+        Season::Days,
+        Season::Weekdays,
+        Season::Minutes,
+        Season::Each,
+    ] {
+        r.each(20, any, season, 577215664901532860);
+        r.each(10, planted, season, 141421356237309504);
+    }
+    r.show(
+        rt,
+        "books with windows of one kind, at the edges of their windows:",
+    )
 }
 
 // Books in which more follows, with windows of any kind.
-fn windowed_at_will() {
+fn windowed_at_will(rt: &impl Print) -> io::Result<()> {
+    let mut r = Run::new();
     let several = made_books::of_form(Form::Several, 8, 8, 3);
-    let r = books::each(books::none(), 40, several, Season::Any, 173205080756887729);
+    r.each(40, several, Season::Any, 173205080756887729);
     let core = made_books::of_form(Form::Core, 10, 7, 9);
-    let r = books::each(r, 20, core, Season::Any, 223606797749978969);
+    r.each(20, core, Season::Any, 223606797749978969);
     let dense = made_books::of_form(Form::Dense, 8, 6, 9);
-    let r = books::each(r, 40, dense, Season::Any, 264575131106459059);
-    books::show(
-        b"books with windows of any kind, at the edges of their windows:\n",
-        r,
-    );
+    r.each(40, dense, Season::Any, 264575131106459059);
+    r.show(
+        rt,
+        "books with windows of any kind, at the edges of their windows:",
+    )
 }
 
 // Books that no reckoning goes through.
-fn large_books() {
-    large::show(
-        b"large books with windows, held against those of the rules in force:\n",
-        large::all(12),
-    );
+fn large_books(rt: &impl Print) -> io::Result<()> {
+    let heading = "large books with windows, held against those of the rules in force:";
+    large::all(12).show(rt, heading)
 }
 
-fn main() {
-    calendar();
-    no_moments();
-    windowed();
-    windowed_at_will();
-    large_books();
+fn main(rt: HostRuntime) -> io::Result<()> {
+    calendar(&rt)?;
+    no_moments(&rt)?;
+    windowed(&rt)?;
+    windowed_at_will(&rt)?;
+    large_books(&rt)
 }

@@ -1,80 +1,30 @@
-// What a reader says of a book, held against the reckoning.
+// What a reader says of a book, held against the reckoning, and how often two answers agree.
 #![tactic(auto)]
 
-use book::{Book, Reading, Verdict};
+pub mod counts;
+
 use dates::{Applies, Date, Moment};
-use records::RuleWindow;
-use samples::reckon::Reckoned;
+use literals::LiteralSet;
+use records::Book;
+use records::refusal::Refusal;
+use samples::reckon::{Literals, Reckoned, Refused, Rule};
 use samples::windows::Window;
-use samples::{calendar, limits, windows};
+use samples::{calendar, windows};
 
-// Whether a verdict has this number and this place; number 0 stands for a book that is accepted.
-pub fn says(verdict: Verdict, number: u8, place: usize) -> bool {
-    match verdict {
-        Verdict::Accepted => number == 0,
-        Verdict::Refused {
-            number: found,
-            place: at,
-        } => {
-            if found == 0 {
-                return false;
-            }
-            if found == number { at == place } else { false }
-        }
+// A refusal, as the documents number it. It is a function, and so are the others below, and no `From`: both types are of other crates.
+pub fn refused(refusal: Refusal) -> Refused {
+    Refused {
+        number: refusal.kind.number(),
+        place: refusal.place,
     }
 }
 
-fn same_masks(a: [u64; Book::MAX_RULES], b: [u64; limits::MASKS]) -> bool {
-    let mut same = true;
-    let rules = limits::MASKS;
-    for i in 0..rules {
-        if a[i] != b[i] {
-            same = false;
-        }
+// A set of literals, as the tests have it.
+pub fn masks(set: LiteralSet) -> Literals {
+    Literals {
+        yes: set.yes,
+        no: set.no,
     }
-    same
-}
-
-fn same_costs(table: [[u16; 2]; Book::MAX_CHOICES], row: [u16; limits::COSTS]) -> bool {
-    let mut same = true;
-    let choices = Book::MAX_CHOICES;
-    for i in 0..choices {
-        if table[i][0] != row[2 * i] {
-            same = false;
-        }
-        if table[i][1] != row[2 * i + 1] {
-            same = false;
-        }
-    }
-    same
-}
-
-// Whether the counts and the facts are the same.
-fn same_numbers(book: Book, due: Reckoned) -> bool {
-    if book.variables != due.variables {
-        return false;
-    }
-    if book.choices != due.choices {
-        return false;
-    }
-    if book.rules != due.rules {
-        return false;
-    }
-    if book.facts_yes != due.facts_yes {
-        return false;
-    }
-    book.facts_no == due.facts_no
-}
-
-fn same_rules(book: Book, due: Reckoned) -> bool {
-    let yes = book.yes;
-    let due_yes = due.yes;
-    if !same_masks(yes, due_yes) {
-        return false;
-    }
-    let no = book.no;
-    let due_no = due.no;
-    same_masks(no, due_no)
 }
 
 // A moment as the engine has it.
@@ -95,55 +45,52 @@ fn number_of(d: Date) -> u32 {
     calendar::date(d.year, d.month, d.day)
 }
 
-// Whether a rule applies as it is reckoned to: always, or in the same window.
-fn same_window(applies: Applies, due: Window) -> bool {
+// When a rule applies, as the tests have it: in a window, or else always.
+fn window_of(applies: Applies) -> Option<Window> {
     match applies {
-        Applies::Always => due.weekdays == 0,
-        Applies::During(w) => {
-            let found = Window {
-                first: number_of(w.first_day),
-                end: number_of(w.end_day),
-                weekdays: w.weekdays,
-                first_minute: w.first_minute,
-                end_minute: w.end_minute,
-            };
-            w.weekdays != 0 && windows::same(found, due)
-        }
+        Applies::Always => None,
+        Applies::During(w) => Some(Window {
+            first: number_of(w.first_day),
+            end: number_of(w.end_day),
+            weekdays: w.weekdays,
+            first_minute: w.first_minute,
+            end_minute: w.end_minute,
+        }),
     }
 }
 
-fn same_windows(kept: [RuleWindow; Book::MAX_RULES], due: [Window; limits::MASKS]) -> bool {
-    let mut same = true;
-    let rules = limits::MASKS;
-    for i in 0..rules {
-        let rule = kept[i];
-        let applies = rule.applies;
-        let window = due[i];
-        if !same_window(applies, window) {
-            same = false;
-        }
+// A rule, as the tests have it.
+fn rule_of(rule: &records::Rule) -> Rule {
+    Rule {
+        literals: masks(rule.literals),
+        window: window_of(rule.applies),
     }
-    same
 }
 
-// Whether a reading and a table of costs are what is reckoned, the book beside a refusal and its costs included.
-pub fn agree(reading: Reading, costs: [[u16; 2]; Book::MAX_CHOICES], due: Reckoned) -> bool {
-    let verdict = reading.verdict;
-    if !says(verdict, due.number, due.place) {
-        return false;
+// Whether a book is the one that is reckoned.
+fn same_book(book: &Book, due: &Reckoned) -> bool {
+    book.variables == due.variables
+        && book.choices == due.choices
+        && masks(book.facts) == due.facts
+        && book.rules.len() == due.rules.len()
+        && book
+            .rules
+            .iter()
+            .zip(due.rules.iter())
+            .all(|(rule, due)| rule_of(rule) == *due)
+}
+
+// Whether a reading and a table of costs are what is reckoned, the costs beside a refusal included.
+pub fn agree(
+    read: &Result<Book, Refusal>,
+    costs: &[[u16; 2]; Book::MAX_CHOICES],
+    due: &Result<Reckoned, Refused>,
+) -> bool {
+    match (read, due) {
+        (Ok(book), Ok(due)) => same_book(book, due) && *costs == due.costs,
+        (Err(refusal), Err(due)) => {
+            refused(*refusal) == *due && *costs == [[0; 2]; Book::MAX_CHOICES]
+        }
+        _ => false,
     }
-    let book = reading.book;
-    if !same_numbers(book, due) {
-        return false;
-    }
-    if !same_rules(book, due) {
-        return false;
-    }
-    let kept = book.windows;
-    let due_windows = due.windows;
-    if !same_windows(kept, due_windows) {
-        return false;
-    }
-    let due_costs = due.costs;
-    same_costs(costs, due_costs)
 }

@@ -1,5 +1,5 @@
 // Helpers that are named otherwise, say the opposite, come in or go out.
-use crate::rules::Rules;
+use crate::rules::{Rules, Unfit};
 use crate::{implied, rules};
 use brute_force::fillings;
 use brute_force::fillings::Literals;
@@ -16,9 +16,10 @@ struct Change {
 // A mask with two of its bits changed for one another.
 fn exchanged(mask: u64, change: Change) -> u64 {
     if fillings::has(mask, change.a) == fillings::has(mask, change.b) {
-        return mask;
+        mask
+    } else {
+        mask ^ (fillings::power(change.a) | fillings::power(change.b))
     }
-    mask ^ (fillings::power(change.a) | fillings::power(change.b))
 }
 
 fn renamed(rule: Literals, change: Change) -> Literals {
@@ -31,118 +32,110 @@ fn renamed(rule: Literals, change: Change) -> Literals {
 }
 
 // Every rule renamed.
-fn all_renamed(r: Rules, change: Change) -> Rules {
-    let count = r.count;
-    let mut made = r;
-    for i in 0..count {
-        made = rules::changed(made, i, renamed(rules::at(r, i), change));
+fn rename_all(r: &mut Rules, change: Change) {
+    for rule in r.as_mut_slice() {
+        *rule = renamed(*rule, change);
     }
-    made
 }
 
-// A variable after the first `first`, which are not all, drawn from the state; counted from 0.
-fn any_from(r: Rules, first: usize) -> usize {
-    let left = std::num::wrapping_sub_usize(r.variables, first);
-    std::num::wrapping_add_usize(first, random::place_below(r.seed, left))
+// One of so many variables, but none of the first `first`, which are not all, drawn from a state; counted from 0.
+fn any_from(seed: u64, variables: usize, first: usize) -> usize {
+    first.wrapping_add(random::place_below(seed, variables.wrapping_sub(first)))
 }
 
 // The helpers under other names: each takes the name of one of those from it on.
-pub fn moved(r: Rules) -> Rules {
-    let first = r.choices;
-    let variables = r.variables;
-    let mut made = r;
-    for h in first..variables {
-        made = rules::drawn(made);
+pub fn move_all(r: &mut Rules) {
+    for h in r.choices..r.variables {
+        rules::draw(r);
         let change = Change {
             a: h,
-            b: any_from(made, h),
+            b: any_from(r.seed, r.variables, h),
             flipped: 0,
         };
-        made = all_renamed(made, change);
+        rename_all(r, change);
     }
-    made
 }
 
 // Some helpers say the opposite of what they said.
-pub fn flipped(r: Rules) -> Rules {
+pub fn flip(r: &mut Rules) {
     let helpers = fillings::first(r.variables) & !fillings::first(r.choices);
     let change = Change {
         a: 0,
         b: 0,
         flipped: r.seed & helpers,
     };
-    all_renamed(r, change)
+    rename_all(r, change);
 }
 
 // A helper more, which is true exactly where two literals are.
-fn with_gate(r: Rules, a: Literals, b: Literals) -> Rules {
+fn add_gate(r: &mut Rules, a: Literals, b: Literals) -> Result<(), Unfit> {
     let out = rules::literal(r.variables, true);
-    let made = rules::with_variable(r);
-    let made = rules::with_both(made, a, fillings::opposite(out));
-    let made = rules::with_both(made, b, fillings::opposite(out));
-    rules::with_both(made, fillings::opposite(fillings::joined(a, b)), out)
+    rules::add_variable(r)?;
+    rules::add_both(r, a, fillings::opposite(out))?;
+    rules::add_both(r, b, fillings::opposite(out))?;
+    rules::add_both(r, fillings::opposite(fillings::joined(a, b)), out)
 }
 
 // A helper more: one that no rule has, or one that is true exactly where two literals are, over any two variables.
-pub fn added(r: Rules) -> Rules {
-    let first = rules::drawn(r);
-    let second = rules::drawn(first);
-    let v = random::place_below(first.seed, first.variables);
-    let next = std::num::wrapping_add_usize(v, 1);
-    if random::byte(r.seed) < 96 || r.variables <= next {
-        return rules::with_variable(first);
+pub fn add(r: &mut Rules) -> Result<(), Unfit> {
+    let is_alone = random::byte(r.seed) < 96;
+    rules::draw(r);
+    let first = r.seed;
+    let v = random::place_below(first, r.variables);
+    let next = v.wrapping_add(1);
+    if is_alone || r.variables <= next {
+        return rules::add_variable(r);
     }
-    let low = rules::literal(v, first.seed % 2 == 0);
-    let high = rules::literal(any_from(second, next), second.seed % 2 == 0);
-    with_gate(second, low, high)
+    rules::draw(r);
+    let second = r.seed;
+    let low = rules::literal(v, first % 2 == 0);
+    let high = rules::literal(any_from(second, r.variables, next), second % 2 == 0);
+    add_gate(r, low, high)
 }
 
 // The resolvents of a rule and all others over one variable, tautologies left out.
-fn with_resolvents(made: Rules, r: Rules, rule: Literals, bit: u64) -> Rules {
-    let count = r.count;
-    let mut more = made;
-    for i in 0..count {
-        let other = rules::at(r, i);
+fn add_resolvents(
+    made: &mut Rules,
+    others: &[Literals],
+    rule: Literals,
+    bit: u64,
+) -> Result<(), Unfit> {
+    for &other in others {
         if implied::clash(rule, other) == bit {
-            more = rules::with(more, implied::resolvent(rule, other));
+            rules::add(made, implied::resolvent(rule, other))?;
         }
     }
-    more
+    Ok(())
 }
 
-// A rule without the variable stays; one that has its yes gives way to its resolvents; one that has its no goes.
-fn resolved_one(made: Rules, r: Rules, rule: Literals, bit: u64) -> Rules {
-    if rule.yes & bit != 0 {
-        return with_resolvents(made, r, rule, bit);
-    }
-    if rule.no & bit != 0 {
-        return made;
-    }
-    rules::with(made, rule)
-}
-
-// All rules with a variable, which is the last, resolved out.
-fn resolved(r: Rules, bit: u64) -> Rules {
-    let count = r.count;
+// All rules with a variable, which is the last, resolved out: a rule without the variable stays; one that has its yes gives
+// way to its resolvents; one that has its no goes.
+fn resolve(r: &mut Rules, bit: u64) -> Result<(), Unfit> {
     let mut made = rules::none(r);
-    for i in 0..count {
-        made = resolved_one(made, r, rules::at(r, i), bit);
+    for &rule in r.as_slice() {
+        if rule.yes & bit != 0 {
+            add_resolvents(&mut made, r.as_slice(), rule, bit)?;
+        } else if rule.no & bit == 0 {
+            rules::add(&mut made, rule)?;
+        }
     }
-    made
+    *r = made;
+    Ok(())
 }
 
 // A helper left out: the last one takes its name, and it is resolved out as the last.
-pub fn left_out(r: Rules) -> Rules {
+pub fn leave_out(r: &mut Rules) -> Result<(), Unfit> {
     if r.variables == r.choices {
-        return r;
+        return Ok(());
     }
-    let last = std::num::wrapping_sub_usize(r.variables, 1);
+    let last = r.variables.wrapping_sub(1);
     let change = Change {
-        a: any_from(r, r.choices),
+        a: any_from(r.seed, r.variables, r.choices),
         b: last,
         flipped: 0,
     };
-    let mut made = resolved(all_renamed(r, change), fillings::power(last));
-    made.variables = last;
-    made
+    rename_all(r, change);
+    resolve(r, fillings::power(last))?;
+    r.variables = last;
+    Ok(())
 }

@@ -1,5 +1,5 @@
 // Rules that follow from others: put in, and left out.
-use crate::rules::Rules;
+use crate::rules::{Rules, Unfit};
 use crate::{order, rules};
 use brute_force::fillings;
 use brute_force::fillings::Literals;
@@ -17,57 +17,46 @@ pub fn resolvent(a: Literals, b: Literals) -> Literals {
 
 // Whether two rules have a resolvent that a book can have.
 fn have_resolvent(a: Literals, b: Literals) -> bool {
-    if u64::count_ones(clash(a, b)) != 1 {
-        return false;
-    }
-    rules::size(resolvent(a, b)) <= Rules::LITERALS
+    clash(a, b).count_ones() == 1 && rules::size(resolvent(a, b)) <= rules::LITERALS
 }
 
-// A rule with one literal more, drawn from the state. Where it has that variable, or there is none, the rule itself.
-fn longer(r: Rules, rule: Literals) -> Literals {
-    let v = random::place_below(r.seed, r.variables);
-    let more = rules::literal(v, r.seed % 2 == 0);
-    let open = fillings::first(r.variables) & !(rule.yes | rule.no);
+// A rule with one literal more, drawn from a state. Where it has that variable, or there is none, the rule itself.
+fn longer(variables: usize, seed: u64, rule: Literals) -> Literals {
+    let v = random::place_below(seed, variables);
+    let more = rules::literal(v, seed % 2 == 0);
+    let open = fillings::first(variables) & !(rule.yes | rule.no);
     fillings::joined(rule, fillings::within(more, open))
 }
 
 // A resolvent of this rule and the first that gives one, or the rule with one literal more.
-fn following(r: Rules, rule: Literals) -> Literals {
-    let count = r.count;
-    for i in 0..count {
-        let other = rules::at(r, i);
+fn following(r: &Rules, rule: Literals) -> Literals {
+    for &other in r.as_slice() {
         if have_resolvent(rule, other) {
             return resolvent(rule, other);
         }
     }
-    longer(r, rule)
+    longer(r.variables, r.seed, rule)
 }
 
 // A rule more that follows from the others.
-pub fn with_implied(r: Rules) -> Rules {
-    if r.count == 0 {
-        return r;
+pub fn add_implied(r: &mut Rules) -> Result<(), Unfit> {
+    if r.len() == 0 {
+        return Ok(());
     }
-    order::put_in(r, following(r, rules::any(r)))
+    let rule = following(r, rules::any(r));
+    order::put_in(r, rule)
 }
 
 // The literals that are true in every filling that obeys the rules. Where there is none, each variable both ways.
-fn forced(r: Rules) -> Literals {
-    let yes = r.yes;
-    let no = r.no;
-    let count = r.count;
+fn forced(r: &Rules, all: u64) -> Literals {
     let every = fillings::first(r.variables);
-    let all = fillings::number_of(r.variables);
     let mut set = Literals {
         yes: every,
         no: every,
     };
     for filling in 0..all {
-        if fillings::obeys(&yes, &no, count, filling) {
-            set = Literals {
-                yes: set.yes & filling,
-                no: set.no & !filling,
-            };
+        if rules::obeys(r, filling) {
+            set = fillings::narrowed(set, filling);
         }
     }
     set
@@ -75,16 +64,19 @@ fn forced(r: Rules) -> Literals {
 
 // A rule more for each literal that the rules force, over helpers too. Some of them showed only where variables were tried
 // both ways, and now show at once.
-pub fn with_forced(r: Rules) -> Rules {
-    rules::with_each(r, forced(r), Literals { yes: 0, no: 0 })
+pub fn add_forced(r: &mut Rules) -> Result<(), Unfit> {
+    let all = fillings::number_of(r.variables).ok_or(Unfit)?;
+    let set = forced(r, all);
+    rules::add_each(r, set, Literals::default())
 }
 
 // A rule more that has all literals of another.
-pub fn with_longer(r: Rules) -> Rules {
-    if r.count == 0 {
-        return r;
+pub fn add_longer(r: &mut Rules) -> Result<(), Unfit> {
+    if r.len() == 0 {
+        return Ok(());
     }
-    order::put_in(r, longer(rules::drawn(r), rules::any(r)))
+    let rule = longer(r.variables, random::next(r.seed), rules::any(r));
+    order::put_in(r, rule)
 }
 
 // Whether all literals of `a` are among those of `b`.
@@ -92,35 +84,20 @@ fn is_part(a: Literals, b: Literals) -> bool {
     fillings::is_empty(fillings::less(a, b))
 }
 
-// Whether the rule at one place makes that at another needless. Of equal rules it is the first that stays.
-fn makes_needless(r: Rules, i: usize, other: usize) -> bool {
-    let a = rules::at(r, i);
-    let b = rules::at(r, other);
-    if !is_part(a, b) {
-        return false;
-    }
-    i < other || !is_part(b, a)
-}
-
-// Whether some rule makes the rule at a place needless.
-fn is_needless(r: Rules, place: usize) -> bool {
-    let count = r.count;
-    for i in 0..count {
-        if makes_needless(r, i, place) {
-            return true;
-        }
-    }
-    false
+// Whether some rule makes the rule at a place needless. Of equal rules it is the first that stays.
+fn is_needless(rules: &[Literals], place: usize, rule: Literals) -> bool {
+    rules.iter().enumerate().any(|(i, other)| is_part(*other, rule)
+        && (i < place || !is_part(rule, *other)))
 }
 
 // Every rule left out that has all literals of another.
-pub fn without_longer(r: Rules) -> Rules {
-    let count = r.count;
+pub fn leave_out_longer(r: &mut Rules) -> Result<(), Unfit> {
     let mut made = rules::none(r);
-    for i in 0..count {
-        if !is_needless(r, i) {
-            made = rules::with(made, rules::at(r, i));
+    for (place, rule) in r.as_slice().iter().enumerate() {
+        if !is_needless(r.as_slice(), place, *rule) {
+            rules::add(&mut made, *rule)?;
         }
     }
-    made
+    *r = made;
+    Ok(())
 }

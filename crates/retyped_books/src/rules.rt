@@ -4,69 +4,68 @@ use brute_force::fillings::Literals;
 use samples::reckon::Reckoned;
 use samples::{limits, random};
 
-// The rules, how many they and the variables and choices are, and the generator's state. They fit until there is a rule
-// or a variable that no book can have.
+const VARIABLES: usize = limits::VARIABLES as usize;
+
+pub const LITERALS: u32 = limits::LITERALS as u32;
+
+// The rules, how many variables and choices there are, and the generator's state. The number of rules stands beside their
+// room, and not in an `ArrayVec`, since rules are `Copy`: a change is tried on a copy, which no book may be able to have.
 #[derive(Clone, Copy)]
 pub struct Rules {
-    pub yes: [u64; Rules::ROOM],
-    pub no: [u64; Rules::ROOM],
-    pub count: usize,
+    room: [Literals; limits::MASKS],
+    count: usize,
     pub variables: usize,
     pub choices: usize,
     pub seed: u64,
-    pub fits: bool,
 }
+
+// There is a rule or a variable that no book can have.
+#[derive(Clone, Copy, Debug, PartialEq, Eq)]
+pub struct Unfit;
 
 impl Rules {
-    pub const ROOM: usize = limits::MASKS;
+    pub fn as_slice(&self) -> &[Literals] {
+        &self.room[..self.count.min(limits::MASKS)]
+    }
 
-    pub const VARIABLES: usize = limits::VARIABLES as usize;
+    pub fn as_mut_slice(&mut self) -> &mut [Literals] {
+        let count = self.count.min(limits::MASKS);
+        &mut self.room[..count]
+    }
 
-    pub const LITERALS: u32 = limits::LITERALS as u32;
+    pub fn len(&self) -> usize {
+        self.count
+    }
 }
 
-pub fn of_book(b: Reckoned, seed: u64) -> Rules {
-    let yes = b.yes;
-    let no = b.no;
+pub fn of_book(b: &Reckoned, seed: u64) -> Rules {
+    let mut room = [Literals::default(); limits::MASKS];
+    for (kept, rule) in room.iter_mut().zip(&b.rules) {
+        *kept = rule.literals;
+    }
     Rules {
-        yes,
-        no,
-        count: b.rules,
+        room,
+        count: b.rules.len(),
         variables: b.variables,
         choices: b.choices,
         seed,
-        fits: true,
     }
 }
 
 // The same variables and no rules.
-pub fn none(mut r: Rules) -> Rules {
-    r.count = 0;
-    r
+pub fn none(r: &Rules) -> Rules {
+    Rules { count: 0, ..*r }
 }
 
 // The generator one state on.
-pub fn drawn(mut r: Rules) -> Rules {
+pub fn draw(r: &mut Rules) {
     r.seed = random::next(r.seed);
-    r
 }
 
-// The rule at a place, or no literals.
-pub fn at(r: Rules, i: usize) -> Literals {
-    if i < r.count {
-        if i < Rules::ROOM {
-            return Literals {
-                yes: r.yes[i],
-                no: r.no[i],
-            };
-        }
-    }
-    Literals { yes: 0, no: 0 }
-}
-
-// The rule at a place that is drawn from the state.
-pub fn any(r: Rules) -> Literals {
-    at(r, random::place_below(r.seed, r.count))
+// The rule at a place that is drawn from the state, or no literals where there is no rule.
+pub fn any(r: &Rules) -> Literals {
+    let place = random::place_below(r.seed, r.count);
+    r.as_slice().get(place).copied().unwrap_or_default()
 }
 
 // A literal over the variable after the first `n`.
@@ -81,61 +80,59 @@ pub fn literal(n: usize, yes: bool) -> Literals {
 
 // How many literals there are.
 pub fn size(rule: Literals) -> u32 {
-    u64::count_ones(rule.yes | rule.no)
+    (rule.yes | rule.no).count_ones()
+}
+
+// Whether a filling obeys the rules.
+pub fn obeys(r: &Rules, filling: u64) -> bool {
+    r.as_slice()
+        .iter()
+        .all(|rule| fillings::meets(filling, *rule))
 }
 
 // Whether a book can have this rule: up to 8 literals, and no variable both ways.
 fn can_stand(rule: Literals) -> bool {
-    if rule.yes & rule.no != 0 {
-        return false;
-    }
-    size(rule) <= Rules::LITERALS
+    rule.yes & rule.no == 0 && size(rule) <= LITERALS
 }
 
 // Another rule at a place.
-pub fn changed(mut r: Rules, i: usize, rule: Literals) -> Rules {
-    if i < Rules::ROOM {
-        r.yes[i] = rule.yes;
-        r.no[i] = rule.no;
-    } else {
-        r.fits = false;
+pub fn change(r: &mut Rules, place: usize, rule: Literals) -> Result<(), Unfit> {
+    if place >= limits::MASKS || !can_stand(rule) {
+        return Err(Unfit);
     }
-    if !can_stand(rule) {
-        r.fits = false;
-    }
-    r
+    r.room[place] = rule;
+    Ok(())
 }
 
 // One rule more.
-pub fn with(r: Rules, rule: Literals) -> Rules {
-    let mut made = changed(r, r.count, rule);
-    made.count = std::num::wrapping_add_usize(r.count, 1);
-    made
+pub fn add(r: &mut Rules, rule: Literals) -> Result<(), Unfit> {
+    let place = r.count;
+    change(r, place, rule)?;
+    r.count = place.wrapping_add(1);
+    Ok(())
 }
 
 // One rule more: the literals of both.
-pub fn with_both(r: Rules, a: Literals, b: Literals) -> Rules {
-    with(r, fillings::joined(a, b))
+pub fn add_both(r: &mut Rules, a: Literals, b: Literals) -> Result<(), Unfit> {
+    add(r, fillings::joined(a, b))
 }
 
 // A rule more for each literal of a set: that literal or one of the others.
-pub fn with_each(r: Rules, set: Literals, others: Literals) -> Rules {
-    let variables = r.variables;
-    let mut made = r;
-    for v in 0..variables {
+pub fn add_each(r: &mut Rules, set: Literals, others: Literals) -> Result<(), Unfit> {
+    for v in 0..r.variables {
         let alone = fillings::within(set, fillings::power(v));
         if !fillings::is_empty(alone) {
-            made = with_both(made, alone, others);
+            add_both(r, alone, others)?;
         }
     }
-    made
+    Ok(())
 }
 
 // One variable more, which is a helper.
-pub fn with_variable(mut r: Rules) -> Rules {
-    r.variables = std::num::wrapping_add_usize(r.variables, 1);
-    if Rules::VARIABLES < r.variables {
-        r.fits = false;
+pub fn add_variable(r: &mut Rules) -> Result<(), Unfit> {
+    if r.variables >= VARIABLES {
+        return Err(Unfit);
     }
-    r
+    r.variables += 1;
+    Ok(())
 }

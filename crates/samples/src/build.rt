@@ -2,46 +2,66 @@
 ghost use Rattle.std.specs.Prelude.{◌≤◌, length};
 
 use crate::windows::Window;
-use crate::{calendar, limits, windows};
+use crate::{limits, windows};
 
-// The bytes put so far, at the start of a room that holds the longest book and more; and the generator's state, which a
-// book that is made up takes along.
+// The bytes put so far, at the start of a room; and the generator's state, which a book that is made up takes along. The
+// length stands beside the room, and not in an `ArrayVec`, since a draft is `Copy`: tests go on from one in many ways.
 #[derive(Clone, Copy)]
-pub struct Draft {
-    pub bytes: [u8; Draft::ROOM],
+pub struct Text<const ROOM: usize> {
+    pub bytes: [u8; ROOM],
     pub len: usize,
     pub seed: u64,
 }
 
-impl Draft {
-    pub const ROOM: usize = 4096;
+impl<const ROOM: usize> Text<ROOM> {
+    // The bytes put so far.
+    pub fn as_slice(&self) -> &[u8] {
+        part(&self.bytes, self.len)
+    }
+
+    // One byte more. A full room stays as it is.
+    pub fn push(&mut self, b: u8) {
+        let n = self.len;
+        if n < ROOM {
+            self.bytes[n] = b;
+            self.len = n + 1;
+        }
+    }
+
+    // These bytes put one after another.
+    pub fn extend_from_slice(&mut self, s: &[u8]) {
+        for &b in s {
+            self.push(b);
+        }
+    }
 }
 
-pub fn empty() -> Draft {
-    Draft {
-        bytes: [0; Draft::ROOM],
+// A text with room for the longest book and more.
+pub type Draft = Text<4096>;
+
+// No bytes, in a room of any size.
+pub fn no_bytes<const ROOM: usize>() -> Text<ROOM> {
+    Text {
+        bytes: [0; ROOM],
         len: 0,
         seed: 88172645463325252,
     }
 }
 
-// One byte more. A full draft stays as it is.
-pub fn put(mut d: Draft, b: u8) -> Draft {
-    let n = d.len;
-    if n < Draft::ROOM {
-        d.bytes[n] = b;
-        d.len = n + 1;
-    }
+pub fn empty() -> Draft {
+    no_bytes()
+}
+
+// The text with one byte more.
+pub fn put<const ROOM: usize>(mut d: Text<ROOM>, b: u8) -> Text<ROOM> {
+    d.push(b);
     d
 }
 
-// These bytes put one after another.
-pub fn bytes(d: Draft, s: &[u8]) -> Draft {
-    let mut made = d;
-    for i in 0..s.len() {
-        made = put(made, s[i]);
-    }
-    made
+// The text with these bytes behind it.
+pub fn bytes<const ROOM: usize>(mut d: Text<ROOM>, s: &[u8]) -> Text<ROOM> {
+    d.extend_from_slice(s);
+    d
 }
 
 pub fn put2(d: Draft, a: u8, b: u8) -> Draft {
@@ -50,59 +70,62 @@ pub fn put2(d: Draft, a: u8, b: u8) -> Draft {
 
 // A two-byte number, the high byte first.
 pub fn pair(d: Draft, n: u16) -> Draft {
-    put2(d, (n / 256) as u8, (n % 256) as u8)
+    bytes(d, &n.to_be_bytes())
 }
 
 pub fn header(d: Draft, variables: u8, choices: u8, rules: u8) -> Draft {
-    put(put2(put2(d, b'H', b'D'), variables, choices), rules)
+    bytes(d, &[b'H', b'D', variables, choices, rules])
 }
 
 pub fn cost(d: Draft, choice: u8, of_yes: u16, of_no: u16) -> Draft {
-    pair(pair(put(put2(d, b'C', b'S'), choice), of_yes), of_no)
+    pair(pair(bytes(d, &[b'C', b'S', choice]), of_yes), of_no)
 }
 
-// The costs of `choices` choices: 5 for yes and 9 for no.
-pub fn costs(d: Draft, choices: u8) -> Draft {
+// The costs of `choices` choices, which are the same for each.
+pub fn equal_costs(d: Draft, choices: u8, of_yes: u16, of_no: u16) -> Draft {
     let mut made = d;
-    for i in 0..choices {
-        made = cost(made, std::num::wrapping_add_u8(i, 1), 5, 9);
+    for choice in 1..=choices {
+        made = cost(made, choice, of_yes, of_no);
     }
     made
 }
 
+// The costs of `choices` choices: 5 for yes and 9 for no.
+pub fn costs(d: Draft, choices: u8) -> Draft {
+    equal_costs(d, choices, 5, 9)
+}
+
 // A rule's mark and count: its literals are put after it.
 pub fn rule(d: Draft, count: u8) -> Draft {
-    put(put2(d, b'R', b'L'), count)
+    bytes(d, &[b'R', b'L', count])
 }
 
 // A rule of `count` literals over `first` and the variables after it, all yes.
 pub fn long_rule(d: Draft, first: u8, count: u8) -> Draft {
     let mut made = rule(d, count);
     for i in 0..count {
-        made = put(made, std::num::wrapping_add_u8(first, i));
+        made.push(first.wrapping_add(i));
     }
     made
 }
 
-// A date's four bytes.
-fn date(d: Draft, date: u32) -> Draft {
-    let made = pair(d, calendar::year_of(date));
-    put2(made, calendar::month_of(date), calendar::day_of(date))
-}
-
 // The record of a window, for the rule before it.
 pub fn window(d: Draft, w: Window) -> Draft {
-    let days = date(date(put2(d, b'W', b'N'), w.first), w.end);
+    let first = bytes(put2(d, b'W', b'N'), &w.first.to_be_bytes());
+    let days = bytes(first, &w.end.to_be_bytes());
     pair(pair(put(days, w.weekdays), w.first_minute), w.end_minute)
 }
 
 // The record of a window where the rule has one.
-pub fn any_window(d: Draft, w: Window) -> Draft {
-    if w.weekdays == 0 { d } else { window(d, w) }
+pub fn any_window(d: Draft, w: Option<Window>) -> Draft {
+    match w {
+        Some(w) => window(d, w),
+        None => d,
+    }
 }
 
 pub fn fact(d: Draft, literal: u8) -> Draft {
-    put(put2(d, b'F', b'A'), literal)
+    bytes(d, &[b'F', b'A', literal])
 }
 
 pub fn end(d: Draft) -> Draft {
@@ -122,15 +145,24 @@ pub fn rule_of_two(d: Draft, a: u8, b: u8) -> Draft {
 // The rule (1), `rules` times.
 pub fn equal_rules(d: Draft, rules: u8) -> Draft {
     let mut made = d;
-    for i in 0..rules {
+    for _ in 0..rules {
         made = rule_of(made, 1);
     }
     made
 }
 
-// The byte of the literal "v is no".
+// The byte of the literal "v is no", or of the opposite of any literal.
 pub fn negated(v: u8) -> u8 {
-    std::num::wrapping_sub_u8(0, v)
+    v.wrapping_neg()
+}
+
+// The variable of a literal: a byte from 128 on stands for the literal that is 256 less.
+pub fn variable(literal: u8) -> u8 {
+    if literal < 128 {
+        literal
+    } else {
+        negated(literal)
+    }
 }
 
 // The variables that a rule of the most literals, one after another, can begin with.
@@ -140,8 +172,7 @@ const FIRST_VARIABLES: u8 = limits::VARIABLES - limits::LITERALS + 1;
 fn long_rules(d: Draft, rules: u8, with_windows: bool) -> Draft {
     let mut made = d;
     for i in 0..rules {
-        let first = std::num::wrapping_add_u8(i % FIRST_VARIABLES, 1);
-        made = long_rule(made, first, limits::LITERALS);
+        made = long_rule(made, i % FIRST_VARIABLES + 1, limits::LITERALS);
         if with_windows {
             made = window(made, windows::nth(i));
         }
@@ -152,8 +183,7 @@ fn long_rules(d: Draft, rules: u8, with_windows: bool) -> Draft {
 // Facts over the first choices, all yes or all no.
 pub fn first_facts(d: Draft, choices: u8, yes: bool) -> Draft {
     let mut made = d;
-    for i in 0..choices {
-        let v = std::num::wrapping_add_u8(i, 1);
+    for v in 1..=choices {
         made = fact(made, if yes { v } else { negated(v) });
     }
     made
@@ -170,35 +200,20 @@ pub fn longest(with_windows: bool) -> Draft {
 pub fn fitting(room: &[u8], len: usize) -> usize
     ensures { result ≤ length room.now }
 {
-    if len < room.len() { len } else { room.len() }
+    len.min(room.len())
 }
 
 // The first bytes, as many as are asked for.
 pub fn part(s: &[u8], len: usize) -> &[u8] {
-    if len <= s.len() { &s[0..len] } else { s }
+    &s[..fitting(s, len)]
 }
 
 // The byte at a place, or 0.
-fn byte_at(s: &[u8], place: usize) -> u8 {
-    if place < s.len() { s[place] } else { 0 }
+pub fn byte_at(s: &[u8], place: usize) -> u8 {
+    s.get(place).copied().unwrap_or(0)
 }
 
-// Whether two rows of bytes are the same.
-fn same_bytes(a: &[u8], b: &[u8]) -> bool {
-    if a.len() != b.len() {
-        return false;
-    }
-    for i in 0..a.len() {
-        if byte_at(a, i) != byte_at(b, i) {
-            return false;
-        }
-    }
-    true
-}
-
-// Whether two drafts have the same bytes.
-pub fn same_drafts(a: Draft, b: Draft) -> bool {
-    let bytes = a.bytes;
-    let other_bytes = b.bytes;
-    same_bytes(part(&bytes, a.len), part(&other_bytes, b.len))
+// Where the rules of a good book begin: HD has 5 bytes, with the number of choices at 3, and each CS has 7.
+pub fn rules_begin(book: &[u8]) -> usize {
+    5 + 7 * usize::from(byte_at(book, 3))
 }

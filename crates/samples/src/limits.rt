@@ -18,10 +18,10 @@ pub const RECORDS: u8 = CHOICES + 1;
 
 pub const MODELS: u8 = CHOICES + 1;
 
-// The entries of an array of rules, and of a row of costs: two for each choice.
+// The entries of a list of rules, and of a table of costs: a pair for each choice.
 pub const MASKS: usize = RULES as usize;
 
-pub const COSTS: usize = 2 * CHOICES as usize;
+pub const COSTS: usize = CHOICES as usize;
 
 // The first and the last year of a date, the days of these years, and the minutes of a day.
 pub const FIRST_YEAR: u16 = 2000;

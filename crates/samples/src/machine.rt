@@ -1,78 +1,80 @@
 // The state of the pass over a book's bytes.
-use crate::windows;
-use crate::windows::Window;
+use crate::limits;
+use crate::reckon::{Literals, Refused, Rule};
+use arrayvec::ArrayVec;
 
 // What the next byte is taken for.
-pub const FIRST_LETTER: u8 = 0;
+#[derive(Clone, Copy, Debug, PartialEq, Eq)]
+pub enum Awaited {
+    FirstLetter,
+    SecondLetter,
+    Count,
+    Field,
+    Nothing,
+}
 
-pub const SECOND_LETTER: u8 = 1;
-
-pub const COUNT: u8 = 2;
-
-pub const FIELD: u8 = 3;
-
-pub const NOTHING: u8 = 4;
+// The counts of the header, as far as they are read.
+#[derive(Clone, Copy, Debug, Default, PartialEq, Eq)]
+pub struct Header {
+    pub variables: u8,
+    pub choices: u8,
+    pub rules: u8,
+}
 
 // What is remembered from one byte to the next.
-#[derive(Clone, Copy)]
+#[derive(Drop)]
 pub struct Machine {
-    pub state: u8,
+    pub awaited: Awaited,
     pub at: usize,
-    // The refusal, or 0 as long as there is none.
-    pub number: u8,
     // Of the record in hand: where it begins, its first letter, the fields to come, what the others are refused for.
     pub begin: usize,
     pub letter: u8,
     pub left: u8,
-    pub bad: u8,
-    pub has_header: bool,
-    pub variables: u8,
-    pub choices: u8,
-    pub rules: u8,
-    // How many CS and RL records are begun, and the variables that the next literal has to be above.
+    pub bad: Option<u8>,
+    // The header, once its mark was met.
+    pub header: Option<Header>,
+    // How many CS records are begun, and the high byte of the cost in hand.
     pub costs_begun: u8,
-    pub rules_begun: u8,
+    pub high: u8,
+    // The variables that the next literal of the rule in hand, and the next fact, have to be above.
     pub last: u8,
     pub last_fact: u8,
-    // The last window, and the number of the rule that it belongs to, counted from 1.
-    pub window: Window,
-    pub windows_begun: u8,
-    // The last cost with its place among the costs, counted from 1, and the high byte of the next.
-    pub cost: u16,
-    pub slot: u8,
-    pub high: u8,
-    // The rule in hand and the facts, as masks.
-    pub yes: u64,
-    pub no: u64,
-    pub facts_yes: u64,
-    pub facts_no: u64,
+    // What has been read: the costs, the rules begun, each with its window, and the facts.
+    pub costs: [[u16; 2]; limits::COSTS],
+    pub rules: ArrayVec<Rule, { limits::MASKS }>,
+    pub facts: Literals,
 }
 
-pub fn start() -> Machine {
-    Machine {
-        state: FIRST_LETTER,
-        at: 0,
-        number: 0,
-        begin: 0,
-        letter: 0,
-        left: 0,
-        bad: 0,
-        has_header: false,
-        variables: 0,
-        choices: 0,
-        rules: 0,
-        costs_begun: 0,
-        rules_begun: 0,
-        last: 0,
-        last_fact: 0,
-        window: windows::none(),
-        windows_begun: 0,
-        cost: 0,
-        slot: 0,
-        high: 0,
-        yes: 0,
-        no: 0,
-        facts_yes: 0,
-        facts_no: 0,
+impl Machine {
+    pub fn start() -> Machine {
+        Machine {
+            awaited: Awaited::FirstLetter,
+            at: 0,
+            begin: 0,
+            letter: 0,
+            left: 0,
+            bad: None,
+            header: None,
+            costs_begun: 0,
+            high: 0,
+            last: 0,
+            last_fact: 0,
+            costs: [[0; 2]; limits::COSTS],
+            rules: ArrayVec::new(),
+            facts: Literals::default(),
+        }
+    }
+
+    // The counts of the header, or 0 as long as they are not read.
+    pub fn counts(&self) -> Header {
+        self.header.unwrap_or_default()
+    }
+
+    // The refusal of the record in hand.
+    pub fn refused(&self, number: u8) -> Refused {
+        Refused {
+            number,
+            place: self.begin,
+        }
     }
 }

@@ -3,6 +3,6 @@
 // Whether one filling comes before another: the lowest bit in which they differ is the other's.
 pub fn comes_before(filling: u64, other: u64) -> bool {
     let differ = filling ^ other;
-    let lowest = differ & std::num::wrapping_sub_u64(0, differ);
+    let lowest = differ & differ.wrapping_neg();
     other & lowest != 0
 }

@@ -1,5 +1,4 @@
 // Numbers that look random and are the same in every run.
-
 // A xorshift generator: the state after this one. A state that is not 0 never leads to 0.
 pub fn next(seed: u64) -> u64 {
     let a = seed ^ (seed << 13);
@@ -14,8 +13,7 @@ pub fn pair(seed: u64) -> u16 {
 
 // A two-byte number below `n`, or 0.
 pub fn pair_below(seed: u64, n: u16) -> u16 {
-    let m = pair(seed);
-    if n == 0 { 0 } else { m % n }
+    if n == 0 { 0 } else { pair(seed) % n }
 }
 
 pub fn byte(seed: u64) -> u8 {
@@ -24,12 +22,14 @@ pub fn byte(seed: u64) -> u8 {
 
 // A byte below `n`, or 0.
 pub fn byte_below(seed: u64, n: u8) -> u8 {
-    let b = byte(seed);
-    if n == 0 { 0 } else { b % n }
+    if n == 0 { 0 } else { byte(seed) % n }
 }
 
 // A place below `n`, or 0.
 pub fn place_below(seed: u64, n: usize) -> usize {
-    let at = ((seed >> 32) % 65536) as usize;
-    if n == 0 { 0 } else { at % n }
+    if n == 0 {
+        0
+    } else {
+        usize::from(pair(seed)) % n
+    }
 }

@@ -2,8 +2,8 @@
 use crate::{calendar, limits, random};
 
 // The window of a rule: from the first date on and before the end date, on the weekdays of a mask (the lowest bit is
-// Monday's), from the first minute on and before the end minute. Where the mask is 0 the rule has no WN record.
-#[derive(Clone, Copy)]
+// Monday's), from the first minute on and before the end minute.
+#[derive(Clone, Copy, Debug, Default, PartialEq, Eq)]
 pub struct Window {
     pub first: u32,
     pub end: u32,
@@ -12,7 +12,7 @@ pub struct Window {
     pub end_minute: u16,
 }
 
-#[derive(Clone, Copy)]
+#[derive(Clone, Copy, Debug, Default, PartialEq, Eq)]
 pub struct Moment {
     pub date: u32,
     pub minute: u16,
@@ -20,17 +20,6 @@ pub struct Moment {
 
 // All weekdays.
 pub const WEEK: u8 = 127;
-
-// No record.
-pub fn none() -> Window {
-    Window {
-        first: 0,
-        end: 0,
-        weekdays: 0,
-        first_minute: 0,
-        end_minute: 0,
-    }
-}
 
 // The widest window: every day but the last, every minute.
 pub fn widest() -> Window {
@@ -45,49 +34,35 @@ pub fn widest() -> Window {
 
 // A window for each number below 128, each another one.
 pub fn nth(n: u8) -> Window {
-    let more = (n % limits::RULES) as u16;
-    let year = std::num::wrapping_add_u16(limits::FIRST_YEAR, more % 99);
-    let month = std::num::wrapping_add_u8(n % 12, 1);
-    let day = std::num::wrapping_add_u8(n % 28, 1);
+    let more = u16::from(n % limits::RULES);
+    let year = limits::FIRST_YEAR + more % 99;
+    let month = n % 12 + 1;
+    let day = n % 28 + 1;
     Window {
         first: calendar::date(year, month, day),
         end: calendar::date(limits::LAST_YEAR, month, day),
-        weekdays: std::num::wrapping_add_u8(n % WEEK, 1),
+        weekdays: n % WEEK + 1,
         first_minute: more,
-        end_minute: std::num::wrapping_sub_u16(limits::MINUTES, more),
+        end_minute: limits::MINUTES - more,
     }
-}
-
-// Whether two windows are the same.
-pub fn same(a: Window, b: Window) -> bool {
-    if a.first != b.first || a.end != b.end {
-        return false;
-    }
-    if a.first_minute != b.first_minute || a.end_minute != b.end_minute {
-        return false;
-    }
-    a.weekdays == b.weekdays
 }
 
 // A window one byte of its record on; `left` counts the bytes to come with this one. Each number is as many bytes as it has
 // room for, so that nothing is left of the one before.
 pub fn with_byte(mut w: Window, left: u8, b: u8) -> Window {
     match left {
-        10..=13 => w.first = (w.first << 8) | (b as u32),
-        6..=9 => w.end = (w.end << 8) | (b as u32),
+        10..=13 => w.first = (w.first << 8) | u32::from(b),
+        6..=9 => w.end = (w.end << 8) | u32::from(b),
         5 => w.weekdays = b,
-        3 | 4 => w.first_minute = (w.first_minute << 8) | (b as u16),
-        _ => w.end_minute = (w.end_minute << 8) | (b as u16),
+        3 | 4 => w.first_minute = (w.first_minute << 8) | u16::from(b),
+        _ => w.end_minute = (w.end_minute << 8) | u16::from(b),
     }
     w
 }
 
 // Whether the days of a window can be.
 fn has_days(w: Window) -> bool {
-    if !calendar::can_be(w.first) || !calendar::can_be(w.end) {
-        return false;
-    }
-    w.first < w.end
+    calendar::can_be(w.first) && calendar::can_be(w.end) && w.first < w.end
 }
 
 // Whether the minutes of a window can be.
@@ -97,10 +72,7 @@ fn has_minutes(w: Window) -> bool {
 
 // Whether a record may have this window.
 pub fn can_be(w: Window) -> bool {
-    if w.weekdays == 0 || WEEK < w.weekdays {
-        return false;
-    }
-    has_days(w) && has_minutes(w)
+    w.weekdays != 0 && w.weekdays <= WEEK && has_days(w) && has_minutes(w)
 }
 
 // Whether a moment can be.
@@ -110,32 +82,24 @@ pub fn is_moment(m: Moment) -> bool {
 
 // Whether a rule with this window is in force at a moment that can be: the days are counted.
 pub fn in_force(w: Window, m: Moment) -> bool {
-    if w.weekdays == 0 {
-        return true;
-    }
     let now = calendar::met(m.date);
-    if now.number < calendar::met(w.first).number {
-        return false;
-    }
-    if calendar::met(w.end).number <= now.number {
-        return false;
-    }
-    if (w.weekdays >> (now.weekday % 8)) % 2 == 0 {
-        return false;
-    }
-    w.first_minute <= m.minute && m.minute < w.end_minute
+    calendar::met(w.first).number <= now.number
+        && now.number < calendar::met(w.end).number
+        && (w.weekdays >> (now.weekday % 8)) % 2 == 1
+        && w.first_minute <= m.minute
+        && m.minute < w.end_minute
 }
 
 // A date drawn from a state, every other one near an end of its month. Where the month has no such day it is the 28th.
 pub fn drawn_date(seed: u64) -> u32 {
-    let year = std::num::wrapping_add_u16(limits::FIRST_YEAR, random::pair_below(seed, 100));
-    let month = std::num::wrapping_add_u8(random::byte_below(seed >> 8, 12), 1);
+    let year = limits::FIRST_YEAR.wrapping_add(random::pair_below(seed, 100));
+    let month = random::byte_below(seed >> 8, 12).wrapping_add(1);
     let day = match random::byte_below(seed >> 16, 8) {
         0 => 1,
         1 => 28,
         2 => 29,
         3 => 31,
-        _ => std::num::wrapping_add_u8(random::byte_below(seed >> 20, 30), 1),
+        _ => random::byte_below(seed >> 20, 30).wrapping_add(1),
     };
     let date = calendar::date(year, month, day);
     if calendar::can_be(date) {
