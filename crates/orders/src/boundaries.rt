@@ -158,7 +158,7 @@ fn facts_of(t: &mut Tally, a: u8, b: u8, number: Option<u8>, place: usize) {
     t.answered(build::end(build::fact(build::fact(d, a), b)), number, place);
 }
 
-// A book of these counts, no rules and one fact, which begins at `place`; number 0 where it is read.
+// A book of these counts, no rules and one fact, which begins at `place`; no number where it is read.
 fn one_fact(
     t: &mut Tally,
     variables: u8,
