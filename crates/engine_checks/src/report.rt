@@ -1,45 +1,42 @@
 // The lines of a tally: a group that was tried, a kind that was seen, and the logs by their steps.
 use crate::tally::{Group, Kind, Tally};
 use retyped_books::Way;
-use std::io;
 
 // How often each group that was tried was tried, and differed.
-fn groups(rt: &impl Print, t: &Tally) -> io::Result<()> {
+fn groups(rt: &impl Print, t: &Tally) {
     for (group, name) in Group::NAMES {
         let counts = t.group(group);
         if counts.tried > 0 {
-            println!(rt; "{name}: {counts}")?;
+            let _ = println!(rt; "{name}: {counts}");
         }
     }
-    Ok(())
 }
 
 // How many of each kind were seen, where there were any.
-fn kinds(rt: &impl Print, t: &Tally) -> io::Result<()> {
+fn kinds(rt: &impl Print, t: &Tally) {
     for (kind, name) in Kind::NAMES {
         let count = t.kind(kind);
         if count > 0 {
-            println!(rt; "{name}: {count}")?;
+            let _ = println!(rt; "{name}: {count}");
         }
     }
-    Ok(())
 }
 
-fn logs_by_steps(rt: &impl Print, t: &Tally) -> io::Result<()> {
-    print!(rt; "reckoned logs of 0 steps, 1, .. 6, and more:")?;
+fn logs_by_steps(rt: &impl Print, t: &Tally) {
+    let _ = print!(rt; "reckoned logs of 0 steps, 1, .. 6, and more:");
     for count in t.logs {
-        print!(rt; " {count}")?;
+        let _ = print!(rt; " {count}");
     }
-    println!(rt; "")
+    let _ = println!(rt; "");
 }
 
 // How many models there were in all books together.
-fn models(rt: &impl Print, t: &Tally) -> io::Result<()> {
+fn models(rt: &impl Print, t: &Tally) {
     let m = t.models;
-    println!(rt;
+    let _ = println!(rt;
         "models found in all: {}, of the reckoned runs: {}, at most: {}",
         m.found, m.reckoned, m.most
-    )
+    );
 }
 
 // The name of a way in which a book is retyped.
@@ -62,46 +59,45 @@ fn way_name(way: Way) -> &'static str {
 }
 
 // The pairs of each way, and how many of them have other bytes.
-fn ways(rt: &impl Print, t: &Tally) -> io::Result<()> {
+fn ways(rt: &impl Print, t: &Tally) {
     for (n, pairs) in t.ways.iter().enumerate() {
         let name = way_name(retyped_books::nth(n));
-        println!(rt;
+        let _ = println!(rt;
             "{name}: {} pairs, {} with other bytes",
             pairs.all, pairs.changed
-        )?;
+        );
     }
-    Ok(())
 }
 
 // Pairs in which the logs should differ, and do in most.
-fn others(rt: &impl Print, t: &Tally) -> io::Result<()> {
+fn others(rt: &impl Print, t: &Tally) {
     let o = t.others;
-    println!(rt;
+    let _ = println!(rt;
         "pairs with other fillings of the choices: {}, and as expected the logs differ at {} of them",
         o.pairs, o.differ
-    )?;
-    println!(rt;
+    );
+    let _ = println!(rt;
         "pairs left out, with the same fillings of the choices: {}",
         o.left_out
-    )
+    );
 }
 
 // All of them under a heading, with an empty line after them.
-pub fn all(rt: &impl Print, heading: &str, t: &Tally) -> io::Result<()> {
-    println!(rt; "{heading}")?;
-    groups(rt, t)?;
+pub fn all(rt: &impl Print, heading: &str, t: &Tally) {
+    let _ = println!(rt; "{heading}");
+    groups(rt, t);
     if t.group(Group::ModelsReckoned).tried > 0 {
-        models(rt, t)?;
+        models(rt, t);
     }
-    kinds(rt, t)?;
+    kinds(rt, t);
     if t.group(Group::WholeLog).tried > 0 {
-        logs_by_steps(rt, t)?;
+        logs_by_steps(rt, t);
     }
     if t.group(Group::SameTerms).tried > 0 {
-        ways(rt, t)?;
+        ways(rt, t);
     }
     if t.others.pairs > 0 {
-        others(rt, t)?;
+        others(rt, t);
     }
-    println!(rt; "")
+    let _ = println!(rt; "");
 }

@@ -14,7 +14,6 @@ use made_books::windowed::Windowed;
 use made_books::{made, windowed};
 use samples::build::Draft;
 use samples::{build, counter, limits, windows};
-use std::io;
 
 // Where the last rule of the longest book without windows and its third fact begin: without facts it would end with EN where
 // its first one is.
@@ -28,50 +27,50 @@ const LAST_WINDOW: usize = limits::BOOK - 98 - limits::WINDOW;
 const SECOND_FACT: usize = LAST_WINDOW + limits::WINDOW + 3;
 
 // The line of a group, after which the next one begins.
-fn end_group(rt: &impl Print, name: &str, t: &mut Tally) -> io::Result<()> {
+fn end_group(rt: &impl Print, name: &str, t: &mut Tally) {
     let books = t.books;
     t.begin_group();
-    println!(rt; "{name}: {books}")
+    let _ = println!(rt; "{name}: {books}");
 }
 
 // The same, where it was expected too what the reader answers.
-fn end_expected(rt: &impl Print, name: &str, also: &str, t: &mut Tally) -> io::Result<()> {
+fn end_expected(rt: &impl Print, name: &str, also: &str, t: &mut Tally) {
     let books = t.books;
     let unexpected = t.unexpected;
     t.begin_group();
-    println!(rt; "{name}: {books}")?;
-    println!(rt; "{also}: {} tried, {unexpected} differ", books.tried)
+    let _ = println!(rt; "{name}: {books}");
+    let _ = println!(rt; "{also}: {} tried, {unexpected} differ", books.tried);
 }
 
 // How many books were good and how many were refused with each number, so that a reader sees what was tried.
-fn answers(rt: &impl Print, t: &Tally) -> io::Result<()> {
-    print!(rt; "reckoned: {} good, refused with 1 to 7 and 14:", t.good)?;
+fn answers(rt: &impl Print, t: &Tally) {
+    let _ = print!(rt; "reckoned: {} good, refused with 1 to 7 and 14:", t.good);
     for number in [1, 2, 3, 4, 5, 6, 7, 14] {
-        print!(rt; " {}", t.refused[number])?;
+        let _ = print!(rt; " {}", t.refused[number]);
     }
-    println!(rt; "")?;
-    println!(rt; "good books with a rule of no literals: {}", t.empty_rules)?;
-    println!(rt; "good books with a window: {}", t.windows)
+    let _ = println!(rt; "");
+    let _ = println!(rt; "good books with a rule of no literals: {}", t.empty_rules);
+    let _ = println!(rt; "good books with a window: {}", t.windows);
 }
 
 // Groups of good books with one place changed.
-fn near_good_books(rt: &impl Print, t: &mut Tally) -> io::Result<()> {
+fn near_good_books(rt: &impl Print, t: &mut Tally) {
     let p = counter::order(b'c');
     let middle = made::book(123456789, made::wide_shape(12, 8, 12));
     let longest = build::longest(false);
     groups::truncations(t, p);
     groups::truncations(t, middle);
-    end_group(rt, "truncations", t)?;
+    end_group(rt, "truncations", t);
     groups::changes(t, p, 0..p.len);
     groups::changes(t, middle, 0..middle.len);
     groups::changes(t, longest, 0..5);
     groups::changes(t, longest, LAST_RULE..THIRD_FACT);
-    end_group(rt, "changes", t)?;
+    end_group(rt, "changes", t);
     groups::shifts(t, p);
-    end_group(rt, "a byte more or less", t)?;
+    end_group(rt, "a byte more or less", t);
     groups::extra_bytes(t, p);
     groups::extra_bytes(t, middle);
-    end_group(rt, "extra bytes", t)
+    end_group(rt, "extra bytes", t);
 }
 
 // Book P with windows for its first rule and its third.
@@ -84,23 +83,23 @@ fn windowed_p() -> Draft {
 }
 
 // Groups of good books with windows in which one place is changed.
-fn near_windows(rt: &impl Print, t: &mut Tally) -> io::Result<()> {
+fn near_windows(rt: &impl Print, t: &mut Tally) {
     let p = windowed_p();
     let longest = build::longest(true);
     groups::truncations(t, p);
     groups::changes(t, p, 0..p.len);
-    end_group(rt, "windows, cut short or changed", t)?;
+    end_group(rt, "windows, cut short or changed", t);
     groups::shifts(t, p);
-    end_group(rt, "windows, a byte more or less", t)?;
+    end_group(rt, "windows, a byte more or less", t);
     groups::changes(t, longest, LAST_WINDOW..SECOND_FACT);
-    end_group(rt, "windows, the longest book changed", t)?;
+    end_group(rt, "windows, the longest book changed", t);
     window_groups::dates(t);
     window_groups::pairs(t);
-    end_group(rt, "windows, dates and pairs", t)
+    end_group(rt, "windows, dates and pairs", t);
 }
 
 // Groups of books made up, of few variables and of up to the most.
-fn made_up_books(rt: &impl Print, t: &mut Tally, with_windows: bool) -> io::Result<()> {
+fn made_up_books(rt: &impl Print, t: &mut Tally, with_windows: bool) {
     let few = |books: u32| Made {
         books,
         variables: 10,
@@ -113,22 +112,23 @@ fn made_up_books(rt: &impl Print, t: &mut Tally, with_windows: bool) -> io::Resu
     };
     groups::made_up(t, few(4000));
     groups::made_up(t, many(1000));
-    end_expected(rt, "made up", "made up, expected", t)?;
+    end_expected(rt, "made up", "made up, expected", t);
     groups::edited(t, few(16000));
     groups::edited(t, many(4000));
-    end_group(rt, "random", t)
+    end_group(rt, "random", t);
 }
 
-fn main(rt: HostRuntime) -> io::Result<()> {
+// A line that standard output does not take is passed over: the next one is tried, and the status is 0.
+fn main(rt: HostRuntime) {
     let mut t = Tally::new();
     boundaries::all(&mut t);
-    end_expected(&rt, "boundaries", "expected", &mut t)?;
+    end_expected(&rt, "boundaries", "expected", &mut t);
     window_boundaries::all(&mut t);
-    end_expected(&rt, "windows", "windows, expected", &mut t)?;
-    near_good_books(&rt, &mut t)?;
-    near_windows(&rt, &mut t)?;
-    made_up_books(&rt, &mut t, false)?;
-    println!(rt; "books with windows:")?;
-    made_up_books(&rt, &mut t, true)?;
-    answers(&rt, &t)
+    end_expected(&rt, "windows", "windows, expected", &mut t);
+    near_good_books(&rt, &mut t);
+    near_windows(&rt, &mut t);
+    made_up_books(&rt, &mut t, false);
+    let _ = println!(rt; "books with windows:");
+    made_up_books(&rt, &mut t, true);
+    answers(&rt, &t);
 }

@@ -16,7 +16,6 @@ mod tally;
 
 use groups::Files;
 use samples::limits;
-use std::io;
 use tally::Tally;
 
 // Texts at the limits of the form, and near good files.
@@ -53,12 +52,13 @@ fn small_files(t: &mut Tally) {
     models::files(t, 2000, files(135792468135792468, 8, 16, 8));
 }
 
-fn main(rt: HostRuntime) -> io::Result<()> {
+// A line that standard output does not take is passed over: the next one is tried, and the status is 0.
+fn main(rt: HostRuntime) {
     let mut t = Tally::new();
     form(&mut t);
     made_files(&mut t);
     long_files::all(&mut t);
     groups::buffers(&mut t);
     small_files(&mut t);
-    report::all(&rt, &t)
+    report::all(&rt, &t);
 }

@@ -19,22 +19,21 @@ use breaks::Ways;
 use engine_checks::question::Question;
 use made_books::Form;
 use run::Run;
-use std::io;
 
-fn orders(rt: &impl Print) -> io::Result<()> {
+fn orders(rt: &impl Print) {
     let mut r = Run::new();
     counter::book_p(&mut r);
     r.show(
         rt,
         "book P with the log of document 01, broken at every byte:",
-    )?;
+    );
     let mut r = Run::new();
     counter::orders(&mut r);
-    r.show(rt, "the orders at the counter, their logs reckoned:")
+    r.show(rt, "the orders at the counter, their logs reckoned:");
 }
 
 // A book whose log is longer than any that is reckoned.
-fn long_log(rt: &impl Print) -> io::Result<()> {
+fn long_log(rt: &impl Print) {
     let d = long::book();
     let mut r = Run::new();
     books::with_log(
@@ -47,11 +46,11 @@ fn long_log(rt: &impl Print) -> io::Result<()> {
     r.show(
         rt,
         "a book with a long log that is known from how it is made:",
-    )
+    );
 }
 
 // Books of several forms, some of them without a model or refused.
-fn made_up(rt: &impl Print) -> io::Result<()> {
+fn made_up(rt: &impl Print) {
     let mut r = Run::new();
     let any = made_books::of_form(Form::Any, 6, 6, 9);
     books::each(&mut r, 100, any, 577215664901532860);
@@ -67,11 +66,11 @@ fn made_up(rt: &impl Print) -> io::Result<()> {
     books::each(&mut r, 40, core, 223606797749978969);
     let dense = made_books::of_form(Form::Dense, 8, 6, 9);
     books::each(&mut r, 60, dense, 264575131106459059);
-    r.show(rt, "books made up, their logs reckoned:")
+    r.show(rt, "books made up, their logs reckoned:");
 }
 
 // Books with windows.
-fn windowed(rt: &impl Print) -> io::Result<()> {
+fn windowed(rt: &impl Print) {
     let mut r = Run::new();
     let any = made_books::of_form(Form::Any, 6, 6, 9);
     books::each_windowed(&mut r, 30, any, 331662479035539984);
@@ -80,23 +79,24 @@ fn windowed(rt: &impl Print) -> io::Result<()> {
     let several = made_books::of_form(Form::Several, 8, 8, 9);
     books::each_windowed(&mut r, 30, several, 271828182845904523);
     let heading = "books with windows at their edges, the logs of the rules in force reckoned:";
-    r.show(rt, heading)
+    r.show(rt, heading);
 }
 
 // Books that no reckoning goes through.
-fn large_books(rt: &impl Print) -> io::Result<()> {
+fn large_books(rt: &impl Print) {
     let mut r = Run::new();
     large::each(&mut r, 12);
     r.show(
         rt,
         "large books, held against the engine's own unbroken logs:",
-    )
+    );
 }
 
-fn main(rt: HostRuntime) -> io::Result<()> {
-    orders(&rt)?;
-    long_log(&rt)?;
-    made_up(&rt)?;
-    windowed(&rt)?;
-    large_books(&rt)
+// A line that standard output does not take is passed over: the next one is tried, and the status is 0.
+fn main(rt: HostRuntime) {
+    orders(&rt);
+    long_log(&rt);
+    made_up(&rt);
+    windowed(&rt);
+    large_books(&rt);
 }

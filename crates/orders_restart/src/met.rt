@@ -2,7 +2,6 @@
 use crate::rooms;
 use readings::counts;
 use samples::limits;
-use std::io;
 
 // Where a break falls: before the first byte, inside a step's record, between two records, inside OK, after the last byte.
 #[derive(Clone, Copy, Debug, PartialEq, Eq)]
@@ -87,16 +86,16 @@ impl Met {
         self.breaks[place as usize]
     }
 
-    pub fn show(&self, rt: &impl Print) -> io::Result<()> {
-        print!(rt;
+    pub fn show(&self, rt: &impl Print) {
+        let _ = print!(rt;
             "logs: {}, bytes of the shortest: {}",
             self.logs, self.shortest
-        )?;
-        println!(rt; ", of the longest: {}", self.longest)?;
-        print!(rt; "breaks before the first byte: {}", self.at(Place::Before))?;
-        print!(rt; ", inside a step: {}", self.at(Place::InStep))?;
-        print!(rt; ", between records: {}", self.at(Place::Between))?;
-        print!(rt; ", inside OK: {}", self.at(Place::InOk))?;
-        println!(rt; ", after the last byte: {}", self.at(Place::After))
+        );
+        let _ = println!(rt; ", of the longest: {}", self.longest);
+        let _ = print!(rt; "breaks before the first byte: {}", self.at(Place::Before));
+        let _ = print!(rt; ", inside a step: {}", self.at(Place::InStep));
+        let _ = print!(rt; ", between records: {}", self.at(Place::Between));
+        let _ = print!(rt; ", inside OK: {}", self.at(Place::InOk));
+        let _ = println!(rt; ", after the last byte: {}", self.at(Place::After));
     }
 }

@@ -11,7 +11,6 @@ use engine_checks::report;
 use engine_checks::tally::Tally;
 use made_books::{Books, Form, Kind};
 use samples::random;
-use std::io;
 
 // Books in which much follows, and the seed of the first of each kind: with a model planted, with small costs and with any, with a
 // core, dense ones, circuits, and books with ties.
@@ -46,7 +45,7 @@ fn in_which_much_follows() -> [(Kind, u64); 6] {
 
 // Steps and logs of books of up to fourteen variables and ten choices that are spread over the most: small ones, some of them
 // without a model, and others in which more follows.
-fn walked_spread(rt: &impl Print) -> io::Result<()> {
+fn walked_spread(rt: &impl Print) {
     let mut t = Tally::new();
     for d in Books::from_seed(made_books::of_form(Form::Any, 10, 8, 9), 602214076602214076).take(
         600,
@@ -62,12 +61,12 @@ fn walked_spread(rt: &impl Print) -> io::Result<()> {
         rt,
         "books spread over 48 variables and 32 choices, walked:",
         &t,
-    )
+    );
 }
 
 // Books of up to fourteen variables and the same retyped: small ones, some of them without a model, and others in
 // which more follows; most have helpers.
-fn retyped_pairs(rt: &impl Print) -> io::Result<()> {
+fn retyped_pairs(rt: &impl Print) {
     let mut t = Tally::new();
     for d in Books::from_seed(made_books::of_form(Form::Any, 10, 7, 3), 668265263668265263).take(
         2400,
@@ -83,11 +82,11 @@ fn retyped_pairs(rt: &impl Print) -> io::Result<()> {
         rt,
         "books retyped, the answers to one held against those to the other:",
         &t,
-    )
+    );
 }
 
 // What the comparison would show if the fillings of the choices were not the same: each book with the rules of the one after it.
-fn other_rules(rt: &impl Print) -> io::Result<()> {
+fn other_rules(rt: &impl Print) {
     let mut t = Tally::new();
     for (like, start) in in_which_much_follows() {
         let mut d = made_books::book(like, start);
@@ -100,11 +99,12 @@ fn other_rules(rt: &impl Print) -> io::Result<()> {
         rt,
         "control, books with the rules of others, whose logs are expected to differ:",
         &t,
-    )
+    );
 }
 
-fn main(rt: HostRuntime) -> io::Result<()> {
-    walked_spread(&rt)?;
-    retyped_pairs(&rt)?;
-    other_rules(&rt)
+// A line that standard output does not take is passed over: the next one is tried, and the status is 0.
+fn main(rt: HostRuntime) {
+    walked_spread(&rt);
+    retyped_pairs(&rt);
+    other_rules(&rt);
 }

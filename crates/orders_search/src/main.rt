@@ -14,26 +14,19 @@ mod worked;
 use engine_checks::tally::Tally;
 use engine_checks::{compare, report, walks};
 use made_books::{Books, Form, Kind};
-use std::io;
 
 // Readings, first models, consequences and how many models these take, of so many books of a kind.
-fn compared_books(
-    rt: &impl Print,
-    heading: &str,
-    books: usize,
-    like: Kind,
-    start: u64,
-) -> io::Result<()> {
+fn compared_books(rt: &impl Print, heading: &str, books: usize, like: Kind, start: u64) {
     let mut t = Tally::new();
     for d in Books::from_seed(like, start).take(books) {
         compare::count(&mut t, &d);
     }
-    report::all(rt, heading, &t)
+    report::all(rt, heading, &t);
 }
 
-fn compared(rt: &impl Print) -> io::Result<()> {
+fn compared(rt: &impl Print) {
     let any = made_books::of_form(Form::Any, 10, 10, 999);
-    compared_books(rt, "books made up:", 20000, any, 88172645463325252)?;
+    compared_books(rt, "books made up:", 20000, any, 88172645463325252);
     let edited = made_books::of_form(Form::Edited, 10, 10, 999);
     compared_books(
         rt,
@@ -41,7 +34,7 @@ fn compared(rt: &impl Print) -> io::Result<()> {
         20000,
         edited,
         362436069362436069,
-    )?;
+    );
     let core = made_books::of_form(Form::Core, 10, 7, 9);
     compared_books(
         rt,
@@ -49,7 +42,7 @@ fn compared(rt: &impl Print) -> io::Result<()> {
         4000,
         core,
         246813579246813579,
-    )?;
+    );
     let covers = made_books::of_form(Form::Covers, 10, 7, 9);
     compared_books(
         rt,
@@ -57,39 +50,39 @@ fn compared(rt: &impl Print) -> io::Result<()> {
         4000,
         covers,
         864197532864197532,
-    )
+    );
 }
 
 // The orders at the counter, and books too large for the reckoning whose steps are written here.
-fn counter(rt: &impl Print) -> io::Result<()> {
+fn counter(rt: &impl Print) {
     let mut t = Tally::new();
     worked::all(&mut t);
     counter_steps::all(&mut t);
     counter_logs::all(&mut t);
     counter_models::all(&mut t);
     large_books::all(&mut t);
-    report::all(rt, "orders at the counter:", &t)
+    report::all(rt, "orders at the counter:", &t);
 }
 
 // Books that no filling obeys, wherever in them the rule of no literals stands.
-fn without_literals(rt: &impl Print) -> io::Result<()> {
+fn without_literals(rt: &impl Print) {
     let mut t = Tally::new();
     empty_rules::all(&mut t);
-    report::all(rt, "books with a rule of no literals:", &t)
+    report::all(rt, "books with a rule of no literals:", &t);
 }
 
 // Books in which at most one choice may be yes, then those in which at most one may be no.
-fn many_models(rt: &impl Print) -> io::Result<()> {
+fn many_models(rt: &impl Print) {
     let mut t = Tally::new();
     most_models::all(&mut t);
     report::all(
         rt,
         "books in which one more model is found than there are choices:",
         &t,
-    )?;
+    );
     let mut t = Tally::new();
     most_models::mirrored(&mut t);
-    report::all(rt, "books in which at most one choice may be no:", &t)
+    report::all(rt, "books in which at most one choice may be no:", &t);
 }
 
 // Steps and logs of so many books of a kind.
@@ -107,7 +100,7 @@ fn planted(t: &mut Tally, books: usize, variables: u8, choices: u8, cost: u16) {
 
 // Steps and logs of books of up to ten variables. With costs up to each of three: small ones, some of them without a model, then
 // with a model planted, small and larger, with helpers and without.
-fn walked(rt: &impl Print) -> io::Result<()> {
+fn walked(rt: &impl Print) {
     let mut t = Tally::new();
     for cost in [1, 3, 999] {
         walk(
@@ -127,11 +120,11 @@ fn walked(rt: &impl Print) -> io::Result<()> {
     walk(&mut t, 3000, ties, 975318642975318642);
     let edited = made_books::of_form(Form::Edited, 6, 6, 3);
     walk(&mut t, 1000, edited, 123456789123456789);
-    report::all(rt, "books of up to 10 variables, walked:", &t)
+    report::all(rt, "books of up to 10 variables, walked:", &t);
 }
 
 // Steps and logs of books in which reasons of different sizes often cost the same.
-fn walked_several(rt: &impl Print) -> io::Result<()> {
+fn walked_several(rt: &impl Print) {
     let mut t = Tally::new();
     let like = made_books::of_form(Form::Several, 8, 8, 3);
     walk(&mut t, 3000, like, 618033988749894848);
@@ -139,25 +132,26 @@ fn walked_several(rt: &impl Print) -> io::Result<()> {
         rt,
         "books with several reasons for each of several goals, walked:",
         &t,
-    )
+    );
 }
 
 // Steps and logs of larger books, with small costs and with any.
-fn walked_large(rt: &impl Print) -> io::Result<()> {
+fn walked_large(rt: &impl Print) {
     let mut t = Tally::new();
     let small = made_books::of_form(Form::Circuit, 20, 16, 3);
     walk(&mut t, 200, small, 314159265358979323);
     let any = made_books::of_form(Form::Circuit, 20, 16, 999);
     walk(&mut t, 200, any, 271828182845904523);
-    report::all(rt, "books of 17 to 20 variables, walked:", &t)
+    report::all(rt, "books of 17 to 20 variables, walked:", &t);
 }
 
-fn main(rt: HostRuntime) -> io::Result<()> {
-    compared(&rt)?;
-    counter(&rt)?;
-    without_literals(&rt)?;
-    many_models(&rt)?;
-    walked(&rt)?;
-    walked_several(&rt)?;
-    walked_large(&rt)
+// A line that standard output does not take is passed over: the next one is tried, and the status is 0.
+fn main(rt: HostRuntime) {
+    compared(&rt);
+    counter(&rt);
+    without_literals(&rt);
+    many_models(&rt);
+    walked(&rt);
+    walked_several(&rt);
+    walked_large(&rt);
 }

@@ -10,7 +10,6 @@ use made_books::{Books, Kind, windowed};
 use readings::counts;
 use samples::build::Draft;
 use samples::{random, reckon, windows};
-use std::io;
 
 // What was compared; and how many moments there were that cannot be, or at which all rules are in force, some, and none.
 #[derive(Clone, Copy)]
@@ -79,16 +78,16 @@ impl Run {
     }
 
     // What was seen, under a heading.
-    pub fn show(&self, rt: &impl Print, heading: &str) -> io::Result<()> {
-        println!(rt; "{heading}")?;
-        print!(rt;
+    pub fn show(&self, rt: &impl Print, heading: &str) {
+        let _ = println!(rt; "{heading}");
+        let _ = print!(rt;
             "moments at which all rules are in force: {}, some: {}",
             self.all, self.some
-        )?;
-        print!(rt;
+        );
+        let _ = print!(rt;
             ", none: {}; moments that cannot be: {}",
             self.none, self.impossible
-        )?;
-        report::all(rt, "", &self.tally)
+        );
+        report::all(rt, "", &self.tally);
     }
 }

@@ -9,7 +9,6 @@ use readings::counts;
 use readings::counts::Counts;
 use samples::reckon::Literals;
 use samples::{build, random, reckon, windows};
-use std::io;
 
 // What was compared, and at how many moments the log is another one than with all rules in force.
 #[derive(Clone, Copy, Debug, Default)]
@@ -52,14 +51,16 @@ impl Run {
     }
 
     // What was seen, under a heading.
-    pub fn show(&self, rt: &impl Print, heading: &str) -> io::Result<()> {
-        println!(rt; "{heading}")?;
-        println!(rt; "same first model: {}", self.models)?;
-        println!(rt; "same consequence: {}", self.consequences)?;
-        println!(rt; "same step from the facts: {}", self.steps)?;
-        println!(rt; "same log: {}", self.logs)?;
-        print!(rt; "moments at which the log is another one than with all rules in force: ")?;
-        println!(rt; "{}", self.others)
+    pub fn show(&self, rt: &impl Print, heading: &str) {
+        let _ = println!(rt; "{heading}");
+        let _ = println!(rt; "same first model: {}", self.models);
+        let _ = println!(rt; "same consequence: {}", self.consequences);
+        let _ = println!(rt; "same step from the facts: {}", self.steps);
+        let _ = println!(rt; "same log: {}", self.logs);
+        let _ = print!(rt;
+            "moments at which the log is another one than with all rules in force: "
+        );
+        let _ = println!(rt; "{}", self.others);
     }
 }
 

@@ -1,41 +1,40 @@
 // The pool of the models that a search has found, and when it asks a question for the pool alone.
-ghost use Rattle.std.specs.Prelude.{◌≡◌, []};
+ghost use Rattle.std.specs.Prelude.{◌≡◌, ◌≤◌, [], length, take};
 ghost use Rattle.items.specs.Witnesses.{Kept};
 
-use arrayvec::ArrayVec;
 use std::marker::Model;
-
-// The models that a pool has room for. Over hard books of 32 choices half of them ask 1.8 times, a quarter 3.8 times as many
-// questions, and twice as many save a tenth of the time. They take 4 KB of the stack.
-const POOL_SIZE: usize = 512;
 
 // The looks from one question that is asked for the pool alone to the next.
 const LOOKS_A_QUESTION: u32 = 16;
 
-// At most `POOL_SIZE` models. No promise depends on the rest: the place where the next model goes once the pool is full, and the
-// looks since the last question that was asked for the pool alone.
+// The models at the front of a lent slice, at most so many as it is long. No promise depends on the rest: the place where the next
+// model goes once the pool is full, and the looks since the last question that was asked for the pool alone.
 #[derive(Drop)]
-pub struct Pool {
-    models: ArrayVec<u64, POOL_SIZE>,
+pub struct Pool<'a> {
+    space: &'a mut [u64],
+    used: usize,
     next: usize,
     looks: u32,
 }
 
-impl Model for Pool {
-    ghost use Rattle.std.specs.Prelude.{List, ℕ};
+impl Model for Pool<'_> {
+    ghost use Rattle.std.specs.Prelude.{List, ℕ, ◌≤◌, length, take};
 
     ghost Value = { List ℕ };
 
-    ghost view = { λ p. p.models.items };
+    ghost view = { λ p. take p.used p.space.now };
+
+    ghost invariant = { λ p. p.used ≤ length p.space.now };
 }
 
-impl Pool {
+impl<'a> Pool<'a> {
     // No models.
-    pub fn new() -> Pool
+    pub fn new(space: &'a mut [u64]) -> Pool<'a>
         ensures { result ≡ [] }
     {
         Pool {
-            models: ArrayVec::new(),
+            space,
+            used: 0,
             next: 0,
             looks: 0,
         }
@@ -45,17 +44,18 @@ impl Pool {
     pub fn models(&self) -> &[u64]
         ensures { result.now ≡ self.now }
     {
-        self.models.as_slice()
+        &self.space[..self.used]
     }
 
     // Puts a model into the pool: into free room, and once there is none over the one that stands there longest.
     pub fn store(&mut self, model: u64)
         ensures { Kept self.old model self.new }
     {
-        if self.models.is_full() {
-            self.replace_oldest(model);
+        if self.used < self.space.len() {
+            self.space[self.used] = model;
+            self.used += 1;
         } else {
-            self.models.push(model);
+            self.replace_oldest(model);
         }
     }
 
@@ -63,9 +63,9 @@ impl Pool {
     fn replace_oldest(&mut self, model: u64)
         ensures { Kept self.old model self.new }
     {
-        let oldest = if self.next < POOL_SIZE { self.next } else { 0 };
-        if let Some(place) = self.models.get_mut(oldest) {
-            *place = model;
+        let oldest = if self.next < self.used { self.next } else { 0 };
+        if oldest < self.used {
+            self.space[oldest] = model;
             self.next = oldest + 1;
         }
     }
