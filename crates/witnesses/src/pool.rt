@@ -17,7 +17,7 @@ pub struct Pool<'a> {
     looks: u32,
 }
 
-impl Model for Pool<'_> {
+impl<'a> Model for Pool<'a> {
     ghost use Rattle.std.specs.Prelude.{List, ℕ, ◌≤◌, length, take};
 
     ghost Value = { List ℕ };
@@ -33,10 +33,23 @@ impl<'a> Pool<'a> {
         ensures { result ≡ [] }
     {
         Pool {
-            space,
             used: 0,
             next: 0,
             looks: 0,
+            space,
+        }
+    }
+
+    // The models that stand at the front of a slice, so many.
+    pub fn of_models(space: &'a mut [u64], used: usize) -> Pool<'a>
+        requires { used ≤ length space.old }
+        ensures { result ≡ take used space.old }
+    {
+        Pool {
+            used,
+            next: 0,
+            looks: 0,
+            space,
         }
     }
 
