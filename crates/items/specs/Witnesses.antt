@@ -1,6 +1,9 @@
 -- Witnesses: sets of items that every contradicting set meets, and the pool that they come from. Assumes nothing.
-use Rattle.std.specs.Prelude.{◌≡◌, refl, ◌⊎◌, Bool, true, false, List, [], ℕ, ◌+◌, ◌≤◌, ◌<◌, length, get_or}
-use Rattle.std.proofs.Common.{sym, subst, inl, inr, arith}
+use Rattle.std.specs.Prelude.{◌≡◌, refl, ◌≢◌, ◌⊎◌, Bool, true, false, List, [], ℕ, ◌+◌, ◌≤◌, ◌<◌, length, get_or, set, take}
+use Rattle.std.proofs.Common.{sym, subst, ◌∙◌, inl, inr, arith, length-set, get_or-set_same, get_or-set_other}
+use Rattle.std.proofs.lemmas.List.{get_or-take, length-take-le}
+use Rattle.std.proofs.Math.Logic.{by_cases}
+use Rattle.std.proofs.Math.Decide.{ℕ_discrete}
 use Rattle.sets.specs.Sets.{bit, diff, disjoint, Within, Apart}
 use Rattle.sets.specs.Laws.Bits.{bit_le, bit_diff}
 use Rattle.sets.specs.Laws.Subset.{within_trans, disjoint_apart, disjoint_false}
@@ -52,3 +55,46 @@ pool_kept {P} {ms} {us} {m} x p k = record { each = λ i h. at i (k.each i h) }
     at : (i : ℕ) → (get_or us i 0 ≡ m) ⊎ ((i < length ms) × (get_or us i 0 ≡ get_or ms i 0)) → P (get_or us i 0)
     at i (inl e) = subst P (sym e) p
     at i (inr w) = subst P (sym w.1) (x.each i w.0)
+
+-- a number is put behind the first `used` of a list, or over one of its numbers
+at_set : (ms : List ℕ) (used m at i : ℕ) → used ≤ length ms → at < length ms → (i ≢ at → i < used)
+    → (get_or (set ms at m) i 0 ≡ m) ⊎ ((i < length (take used ms)) × (get_or (set ms at m) i 0 ≡ get_or (take used ms) i 0))
+at_set ms used m at i r h q =
+    by_cases (ℕ_discrete i at) (λ e. inl (rw e (get_or-set_same ms at m 0 h)))
+    (λ e. inr (
+      omega (arith, length-take-le used ms r, q e),
+      get_or-set_other ms at i m 0 e ∙ sym (get_or-take used ms i 0 (q e)),
+    ))
+
+module _ (ms : List ℕ) (used m : ℕ) where
+  pub kept_more : used < length ms → Kept (take used ms) m (take (used + 1) (set ms used m))
+  kept_more h = record { each = at }
+    where
+      within : used + 1 ≤ length (set ms used m)
+      within = omega (arith, length-set ms used m)
+
+      at : (i : ℕ) → i < length (take (used + 1) (set ms used m))
+          → (get_or (take (used + 1) (set ms used m)) i 0 ≡ m)
+          ⊎ ((i < length (take used ms)) × (get_or (take (used + 1) (set ms used m)) i 0 ≡ get_or (take used ms) i 0))
+      at i l =
+          let less : i < used + 1 = omega (arith, l, length-take-le (used + 1) (set ms used m) within) in
+          rw (get_or-take (used + 1) (set ms used m) i 0 less)
+          (at_set ms used m used i (omega arith) h (λ e. let ne : i ≡ used → ⊥ = e in omega arith))
+
+  pub kept_over : (at : ℕ) → used ≤ length ms → at < length ms → Kept (take used ms) m (take used (set ms at m))
+  kept_over at r h = record { each = over }
+    where
+      within : used ≤ length (set ms at m)
+      within = omega (arith, length-set ms at m)
+
+      over : (i : ℕ) → i < length (take used (set ms at m))
+          → (get_or (take used (set ms at m)) i 0 ≡ m)
+          ⊎ ((i < length (take used ms)) × (get_or (take used (set ms at m)) i 0 ≡ get_or (take used ms) i 0))
+      over i l =
+          let less : i < used = omega (arith, l, length-take-le used (set ms at m) within) in
+          rw (get_or-take used (set ms at m) i 0 less) (at_set ms used m at i r h (λ e. less))
+
+pub kept_same : {ms : List ℕ} (m : ℕ) → Kept ms m ms
+kept_same m = record { each = λ i l. inr (l, refl) }
+
+pub ruleset kept_laws = (kept_more, kept_over, kept_same)
