@@ -3,14 +3,16 @@
 use mathlib.Core.Path.{◌≡◌, refl, ap, ◌∙◌}
 use mathlib.Core.Bool.{Bool, true, false, cond}
 use mathlib.Core.List.{List, [], ◌∷◌}
-use Prim.Native.Nat.{ℕ, suc, ◌+◌, ◌≤◌, ◌<◌}
+use Prim.Native.Nat.{ℕ, suc, ◌+◌, ◌-◌, ◌≤◌, ◌<◌}
 use native.Mathlib.Numerals.{add-one}
 use native.Mathlib.Omega.{arith}
 use borrow.Author.Tests.{ltb-true}
 use lib.Dec.{ltb}
-use lib.ListN.{length, get_or, drop, length-drop, drop_of_length-le}
+use lib.ListN.{length, get_or, take, drop, length-drop, drop_of_length-le}
 use lib.Seq.{drop-cons}
 use Rattle.std.specs.List.{prefix_len}
+use Rattle.std.proofs.Common.{min}
+use Rattle.std.proofs.lemmas.List.{drop_min, take_all}
 use Rattle.std.proofs.lemmas.List.Sums.{prefix_len-le-length}
 use Rattle.literals.specs.Laws.{and_both}
 use Rattle.records.specs.Format.{value, refused, byte}
@@ -27,6 +29,26 @@ run_prefix test (b ∷ s) =
 -- a run is part of the bytes
 run_within : (test : ℕ → Bool) (s : List ℕ) → run test s ≤ length s
 run_within test s = rw (← run_prefix test s) (prefix_len-le-length test s)
+
+-- a run ends where a byte does not pass, goes on where one does, and ends with the bytes
+module _ (test : ℕ → Bool) (s : List ℕ) (i : ℕ) where
+  pub run_stops : i < length s → test (get_or s i 0) ≡ false → run test (drop i s) ≡ 0
+  unfolding run
+  run_stops h e = rw (drop-cons s i 0 h, e) refl
+
+  pub run_goes : i < length s → test (get_or s i 0) ≡ true → run test (drop i s) ≡ 1 + run test (drop (i + 1) s)
+  unfolding run
+  run_goes h e = rw (drop-cons s i 0 h, e, add-one i) (omega arith)
+
+  pub run_out : length s ≤ i → run test (drop i s) ≡ 0
+  unfolding run
+  run_out h = rw (drop_of_length-le s h) refl
+
+-- what is left of a text from a place on, or of nothing where the place is behind it
+pub run_left : (test : ℕ → Bool) (s : List ℕ) (from : ℕ) {m : ℕ} → m ≡ min from (length s)
+    → run test (take (length s - m) (drop m s)) ≡ run test (drop from s)
+run_left test s from {m} e =
+    ap (run test) (take_all (length s - m) (drop m s) (omega (arith, length-drop m s)) ∙ ap (λ k. drop k s) e ∙ drop_min from s)
 
 module _ (s : List ℕ) (test : ℕ → Bool) (place : ℕ) where
   -- what stands at a place, stands within the text

@@ -53,9 +53,16 @@ pub fn stands(s: &[u8], place: usize, class: Class) -> bool
 pub fn run_end(s: &[u8], from: usize, class: Class) -> usize
     ensures { result ≡ after s.now (belongs class) from }
 {
-    // Not `skip`, which steps over the bytes before.
+    // Not `skip`, which steps over the bytes before, and not `take_while`, which takes longer where the runs are short.
     let left = &s[from.min(s.len())..];
-    from + left.iter().take_while(|&&b| belongs(class, b)).count()
+    let mut end = from;
+    for &b in left {
+        if !belongs(class, b) {
+            return end;
+        }
+        end += 1;
+    }
+    end
 }
 
 // One or more bytes of a class.
