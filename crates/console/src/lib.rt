@@ -45,7 +45,7 @@ pub fn show_book(moment: [u8; printing::MOMENT_SIZE], fd: i32) {
 // The line of a refusal.
 fn show_refusal(refused: Refusal) {
     let mut line = [0u8; MAX_LINE];
-    let size = printing::put_refusal(&mut line, refused);
+    let size = printing::put_refusal(&mut line, refused.kind.number(), refused.place);
     io::write_all(STDOUT, &line[..size]);
 }
 

@@ -2,7 +2,6 @@
 #![tactic(auto)]
 
 ghost use Rattle.std.specs.Prelude.{◌≡◌, ◌≤◌, length};
-ghost use Rattle.records.specs.Refusals.{number_of};
 ghost use Rattle.printing.specs.Text.{refusal_text};
 ghost use Rattle.printing.specs.Printed.{moment_size, moment_at, PrintCall};
 ghost use Rattle.printing.specs.Promises.{Front};
@@ -12,7 +11,7 @@ mod text;
 
 use book::Book;
 use dates::Moment;
-use records::refusal::{Refusal, RefusalKind};
+use records::refusal::RefusalKind;
 use records::{costs, windows};
 
 // The bytes of a moment, with which an input begins: four of its date and two of its minute.
@@ -43,22 +42,21 @@ pub fn print(input: &[u8], out: &mut [u8]) -> Option<usize>
         return None;
     }
     if input.len() < MOMENT_SIZE {
-        return Some(put_refusal(out, RefusalKind::Times.at(0)));
+        return Some(put_refusal(out, RefusalKind::Times.number(), 0));
     }
     let mut log = [0u8; Book::MAX_LOG];
     Some(
         match engine::log(&input[MOMENT_SIZE..], moment_at(input), &mut log) {
-            Err(refused) => put_refusal(out, refused),
+            Err(refused) => put_refusal(out, refused.kind.number(), refused.place),
             Ok(written) => lines::put_log(out, &log[..written.size]),
         },
     )
 }
 
 // The one line of a refusal: at most 8 + 3 + 4 + 20 + 1 bytes.
-pub fn put_refusal(out: &mut [u8], refused: Refusal) -> usize
+pub fn put_refusal(out: &mut [u8], number: u8, place: usize) -> usize
     requires { 36 ≤ length out.old }
-    ensures { Front (refusal_text (number_of refused.kind) refused.place) out.old out.new result }
+    ensures { Front (refusal_text number place) out.old out.new result }
 {
-    let number = refused.kind.number() as u64;
-    text::put_pair(out, 0, b"refused ", number, b" at ", refused.place as u64)
+    text::put_pair(out, 0, b"refused ", number as u64, b" at ", place as u64)
 }

@@ -11,7 +11,7 @@ returns-then-out-lt-MAX_TEXT c = print_short c.if-out-lt-MAX_TEXT.true
 
 pub returns-then-input-lt-MOMENT_SIZE : goal.returns-then-input-lt-MOMENT_SIZE
 returns-then-input-lt-MOMENT_SIZE c = print_no_moment (omega (arith, c.if-input-lt-MOMENT_SIZE.true)) c.if-out-lt-MAX_TEXT.false
-    (rw c.at.ensures at c.put_refusal.ensures)
+    (rw c.number.ensures at c.put_refusal.ensures)
 
 pub slice_bounds-log-end-in-Ok : goal.slice_bounds-log-end-in-Ok
 slice_bounds-log-end-in-Ok c =
@@ -35,7 +35,7 @@ pub returns-in-Err : goal.returns-in-Err
 returns-in-Err c =
     let called : BookCalled c.args.input.now c.log.new.buffer c.log.result = record { whole = omega arith; call = rw (tail_is _ 6, c.moment_at.ensures) at c.log.ensures } in
     print_refused called c.in-Err.is c.if-out-lt-MAX_TEXT.false
-    c.put_refusal-in-Err.ensures
+    (rw c.number-in-Err.ensures at c.put_refusal-in-Err.ensures)
 
 pub returns-in-Ok : goal.returns-in-Ok
 returns-in-Ok c =

@@ -9,12 +9,12 @@ use Rattle.printing.proofs.put_refusal.Goals as goal
 pub put_pair-requires : goal.put_pair-requires
 unfolding refusal_text
 put_pair-requires c =
-    let digits : length (decimal c.number-number.result) + length (decimal c.args.refused.place) ≤ 23 = omega (arith, decimal_short 2 c.number-number.result (omega (arith, c.number-number.type_inv)), decimal_short 19 c.args.refused.place (omega (arith, c.well_formed))) in
+    let digits : length (decimal c.args.number) + length (decimal c.args.place) ≤ 23 = omega (arith, decimal_short 2 c.args.number (omega (arith, c.ranges.number.fits)), decimal_short 19 c.args.place (omega (arith, c.ranges.place.fits))) in
     rw zero-add (le_trans (refusal_length _ _ digits) c.requires)
 
 pub returns : goal.returns
 unfolding refusal_text
 returns c =
-    let digits : length (decimal c.number-number.result) + length (decimal c.args.refused.place) ≤ 23 = omega (arith, decimal_short 2 c.number-number.result (omega (arith, c.number-number.type_inv)), decimal_short 19 c.args.refused.place (omega (arith, c.well_formed))) in
-    let short : length (refusal_text c.number-number.result c.args.refused.place) ≤ length c.args.out.now = le_trans (refusal_length _ _ digits) c.requires in
-    rw (← c.number-number.ensures) (put_front c.put_pair.ensures short)
+    let digits : length (decimal c.args.number) + length (decimal c.args.place) ≤ 23 = omega (arith, decimal_short 2 c.args.number (omega (arith, c.ranges.number.fits)), decimal_short 19 c.args.place (omega (arith, c.ranges.place.fits))) in
+    let short : length (refusal_text c.args.number c.args.place) ≤ length c.args.out.now = le_trans (refusal_length _ _ digits) c.requires in
+    put_front c.put_pair.ensures short
