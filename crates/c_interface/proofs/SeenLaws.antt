@@ -4,6 +4,7 @@ use Rattle.std.specs.Prelude.{Option, Some, None, unwrap_or, pos}
 use Rattle.log_form.specs.declared.Step.{Step}
 use Prim.Native.Nat.{ℕ}
 use Rattle.c_interface.specs.Promises.{Passed}
+use Rattle.c_interface.specs.Told.{Told}
 use Rattle.c_interface.specs.Seen.{code, Outcome, done, refusal, returned, behind, Seen, as_step, shown_step}
 
 -- an outcome, in each of its cases
@@ -16,17 +17,18 @@ module _ {B : Type 0} {o : Outcome B} where
   unfolding returned behind
   passed_refused e c = record { returns = rw e c; leaves = rw e refl }
 
--- the engine's call gave `result`, which is `answer` by its contract
-module _ {A B : Type 0} {Call : A → Type 0} {seen : A → Outcome B} {answer result : A} (called : Call result) (said : result ≡ answer) where
-  pub seen_passed : {before after : B} {r : ℕ} → Passed (seen result) before after r → Seen Call answer seen before after r
-  seen_passed p = record { called = rw said at called; returns = rw said at p.returns; leaves = rw said at p.leaves }
+-- the engine's call gave `result`, which is `answer` by its contract; what is seen of that is told
+module _ {A B : Type 0} {Call : A → Type 0} {seen : A → Outcome B} {answer result : A} {bytes : ℕ} {meant : Outcome B} (called : Call result)
+    (said : result ≡ answer) (t : Told bytes meant (seen answer)) where
+  pub seen_passed : {before after : B} {r : ℕ} → Passed (seen result) before after r → Seen Call answer seen meant before after r
+  seen_passed p = record { called = rw said at called; as_meant = t.as_meant; returns = rw said at p.returns; leaves = rw said at p.leaves }
 
   -- and the case `told`
   module _ {told : A} (is : result ≡ told) where
-    pub seen_done : {b before : B} → seen told ≡ done b → Seen Call answer seen before b 0
+    pub seen_done : {b before : B} → seen told ≡ done b → Seen Call answer seen meant before b 0
     seen_done e = seen_passed (passed_done (ap seen is ∙ e))
 
-    pub seen_refused : {number place r : ℕ} {before : B} → seen told ≡ refusal number place → r ≡ code number place → Seen Call answer seen before before r
+    pub seen_refused : {number place r : ℕ} {before : B} → seen told ≡ refusal number place → r ≡ code number place → Seen Call answer seen meant before before r
     seen_refused e c = seen_passed (passed_refused (ap seen is ∙ e) c)
 
 -- a step, or zeros where there is none

@@ -1,19 +1,24 @@
 -- What the C side sees of an answer of the engine: the number that a function returns, and what then stands behind its pointers. One definition for all
 -- of them: an answer comes to an outcome, and the outcome settles both.
-use Rattle.std.specs.Prelude.{◌≡◌, List, [], ◌∷◌, map, ℕ, ◌+◌, ◌*◌, ◌-◌, ◌^◌, ◌/◌, ◌%◌, min, pos, length, Option, Some, None, Result, Ok, Err}
+use Rattle.std.specs.Prelude.{◌≡◌, cond, List, [], ◌∷◌, map, ℕ, ◌+◌, ◌*◌, ◌-◌, ◌^◌, ◌/◌, ◌%◌, min, pos, length, Option, Some, None, Result, Ok, Err}
 use Rattle.literals.specs.Literal.{Literal}
 use Rattle.literals.specs.declared.LiteralSet.{LiteralSet}
 use Rattle.dates.specs.declared.Moment.{Moment}
 use Rattle.dates.specs.declared.Applies.{Applies}
 use Rattle.records.specs.declared.Book.{Book}
 use Rattle.records.specs.Limits.{max_rules}
+use Rattle.records.specs.Format.{Read, value, refused}
 use Rattle.records.specs.Refusals.{number_of}
 use Rattle.records.specs.declared.Rule.{Rule}
 use Rattle.records.specs.declared.refusal.Refusal.{Refusal}
 use Rattle.book.specs.Answer.{padded}
+use Rattle.problem.specs.Problem.{Problem, given}
+use Rattle.consequence.specs.Meaning.{consequence_of}
+use Rattle.step.specs.Meaning.{question_of, step_of}
+use Rattle.log_form.specs.Format.{log_bytes}
 use Rattle.log_form.specs.declared.Step.{Step}
 use Rattle.log_writer.specs.declared.Written.{Written}
-use Rattle.engine.specs.Calls.{ModelAnswer, ConsequenceAnswer, StepAnswer, LogAnswer}
+use Rattle.engine.specs.Calls.{ModelAnswer, ConsequenceAnswer, StepAnswer, LogAnswer, between, step_says, LogOutcome, logged, refused_with}
 
 -- ---- a refusal as one number
 
@@ -50,9 +55,11 @@ module _ {B : Type 0} where
   behind (done b) before = b
   behind (refusal number place) before = before
 
--- A function for C: the engine's contract of its answer, and that the C side sees this answer.
-pub record Seen {A B : Type 0} (Call : A → Type 0) (answer : A) (seen : A → Outcome B) (before after : B) (r : ℕ) : Type 0 where
+-- A function for C: the engine's contract of its answer, that the C side sees this answer, and that what is seen is what the bytes mean, where a refusal has
+-- document 01's number itself.
+pub record Seen {A B : Type 0} (Call : A → Type 0) (answer : A) (seen : A → Outcome B) (meant : Outcome B) (before after : B) (r : ℕ) : Type 0 where
   pub called : Call answer
+  pub as_meant : seen answer ≡ meant
   pub returns : r ≡ returned (seen answer)
   pub leaves : after ≡ behind (seen answer) before
 
@@ -154,3 +161,19 @@ seen_step r = seen_as shown_step r
 -- A log: its length, its number of steps and its total.
 abbrev pub seen_log : LogAnswer → Outcome LogShown
 seen_log r = seen_as (λ (w : Written). as_log w.size w.steps w.total) r
+
+-- ---- what the bytes mean as an outcome: a refusal has document 01's number itself
+
+-- What is shown of what is read, or the refusal.
+abbrev pub read_as : {A B : Type 0} → (A → B) → Read A → Outcome B
+read_as show (value a end) = done (show a)
+read_as show (refused number place) = refusal number place
+
+-- The step of a problem from a known set, nothing left, or 10.
+abbrev pub step_as : LiteralSet → Problem → Outcome Step
+step_as known p = cond (between (given p) known (consequence_of p)) (seen_step (step_says (step_of (question_of p known)))) (refusal 10 0)
+
+-- The log, or the refusal.
+abbrev pub log_as : LogOutcome → Outcome LogShown
+log_as (logged l) = done (as_log (length (log_bytes l)) l.steps l.total)
+log_as (refused_with number place) = refusal number place
