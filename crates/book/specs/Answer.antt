@@ -3,8 +3,8 @@ use Rattle.std.specs.Prelude.{List, [], ◌∷◌, ◌++◌, map, ℕ, ◌-◌, 
 use Rattle.literals.specs.Truth.{yes_mask, no_mask}
 use Rattle.arrayvec.specs.ArrayVec.{ArrayVec}
 use Rattle.records.specs.Limits.{max_choices}
-use Rattle.records.specs.Format.{Read, value, refused, Cost, Rule, OrderBook}
-use Rattle.records.specs.Promises.{read_answer, row, masks}
+use Rattle.records.specs.Format.{Cost, Rule, OrderBook, row, masks, Read, value, refused}
+use Rattle.records.specs.Refusals.{read_answer}
 use Rattle.records.specs.declared.Book.{Book}
 use Rattle.records.specs.declared.Rule as kept
 use Rattle.records.specs.declared.refusal.Refusal.{Refusal}

@@ -2,6 +2,8 @@
 -- "Where each check is made", record by record; each record is read from the part of the bytes that begins at its mark.
 use Rattle.std.specs.Prelude.{Bool, true, false, cond, ◌&&◌, List, [], ◌∷◌, map, ℕ, zero, suc, ◌+◌, ◌*◌, leb, ltb, eqb, length, get_or, take, drop}
 use Rattle.literals.specs.Literal.{Literal, variable, of_byte}
+use Rattle.literals.specs.Truth.{yes_mask, no_mask}
+use Rattle.literals.specs.declared.LiteralSet.{LiteralSet}
 use Rattle.dates.specs.Windows.{is_window}
 use Rattle.dates.specs.declared.Date.{Date}
 use Rattle.dates.specs.declared.Window.{Window}
@@ -36,6 +38,16 @@ pub record OrderBook : Type 0 where
   pub costs : List Cost
   pub rules : List Rule
   pub facts : List Literal
+
+-- ---- how it is kept
+
+-- The costs of a choice as a row: the yes first.
+abbrev pub row : Cost → List ℕ
+row c = c.of_yes ∷ c.of_no ∷ []
+
+-- A list of literals as its two masks.
+abbrev pub masks : List Literal → LiteralSet
+masks ls = record { yes = yes_mask ls; no = no_mask ls }
 
 -- ---- answers of a reader
 

@@ -1,5 +1,6 @@
--- Document 01's numbers of the refusals.
-use Rattle.std.specs.Prelude.{List, [], ◌∷◌, ℕ, get_or, Result, Err}
+-- Document 01's numbers of the refusals, and the answer with one of them.
+use Rattle.std.specs.Prelude.{List, [], ◌∷◌, ℕ, get_or, Result, Ok, Err}
+use Rattle.records.specs.Format.{Read, value, refused}
 use Rattle.records.specs.declared.refusal.RefusalKind.{RefusalKind}
 use Rattle.records.specs.declared.refusal.RefusalKind.TheVariants as kind
 use Rattle.records.specs.declared.refusal.Refusal.{Refusal}
@@ -38,3 +39,9 @@ refusal_of number place = record { kind = kind_of number; place = place }
 -- The answer that refuses with a number, at a place.
 abbrev pub refuses : {A : Type 0} → ℕ → ℕ → Result A Refusal
 refuses number place = Err (refusal_of number place)
+
+module _ {A B : Type 0} (keep : A → ℕ → B) where
+  -- Several records: what is kept of what they say and of the place after them, or the refusal.
+  unfoldable pub read_answer : Read A → Result B Refusal
+  read_answer (value a place) = Ok (keep a place)
+  read_answer (refused number place) = Err (refusal_of number place)
