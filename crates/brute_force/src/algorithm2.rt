@@ -3,12 +3,13 @@ use crate::fillings;
 use crate::fillings::Literals;
 use samples::limits;
 
-// How many models were found, and the literals over choices that are true in each of them. Before the first model, every
-// literal over a choice is kept.
+// How many models were found, the literals over choices that are true in each of them, and whether none is left that denies
+// one of these. Before the first model, every literal over a choice is kept.
 #[derive(Clone, Copy, Debug, PartialEq, Eq)]
 pub struct Run {
     pub models: u32,
     pub kept: Literals,
+    pub ended: bool,
 }
 
 // Whether a filling may be the next model: the first one may be any, and each one after it denies a kept literal.
@@ -30,14 +31,16 @@ pub fn narrowed(all: &[u64], given: Literals, choices: u64) -> Run {
             yes: choices,
             no: choices,
         },
+        ended: false,
     };
     for _ in 0..limits::MODELS {
         let Some(filling) = next(run, all, given) else {
-            return run;
+            return Run { ended: true, ..run };
         };
         run = Run {
             models: run.models.wrapping_add(1),
             kept: fillings::narrowed(run.kept, filling),
+            ended: false,
         };
     }
     run

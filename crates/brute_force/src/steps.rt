@@ -7,13 +7,13 @@ use samples::limits;
 // of the set as masks. Masks of one variable are in the order of the variables, and a mask is the sum of 2^(v-1) over its
 // variables v.
 #[derive(Clone, Copy, Debug, Default, PartialEq, Eq)]
-struct Candidate {
-    cost: u64,
-    facts: u64,
-    goal: u64,
-    from: u64,
+pub struct Candidate {
+    pub cost: u64,
+    pub facts: u64,
+    pub goal: u64,
+    pub from: u64,
     // Whether another one costs the same.
-    tied: bool,
+    pub tied: bool,
 }
 
 // The best so far, and the best in the order before E6, which leaves out the number of facts.

@@ -30,7 +30,7 @@ pub fn signed(n: u64, v: u8) -> u8 {
 }
 
 // The literal over `v` that is true in a filling, or the other one.
-fn literal_in(filling: u64, v: u8, so: bool) -> u8 {
+pub fn literal_in(filling: u64, v: u8, so: bool) -> u8 {
     let yes = (filling >> (v % 64)) % 2 == 1;
     if yes == so { v } else { build::negated(v) }
 }
