@@ -1,16 +1,44 @@
 // All fillings of a book gone through one by one. Bit v - 1 of a filling, and of a mask, stands for variable v.
-use arrayvec::ArrayVec;
 use samples::order;
 use samples::reckon::{Reckoned, Rule};
 pub use samples::reckon::{Literals, bit};
 
-// Fillings that are at hand: books of up to ten variables have no more.
-pub const ROOM: usize = 1024;
+// Fillings that are at hand. Their number stands beside their room, and not in an `ArrayVec`, since fillings are `Copy`.
+#[derive(Clone, Copy)]
+pub struct Fillings {
+    room: [u64; Fillings::ROOM],
+    count: usize,
+}
 
-pub type Fillings = ArrayVec<u64, ROOM>;
+impl Fillings {
+    // Books of up to ten variables have no more.
+    pub const ROOM: usize = 1024;
 
-// The most variables of a book whose fillings are gone through.
-const VARIABLES: usize = 20;
+    // The most variables of a book whose fillings are gone through.
+    pub const VARIABLES: usize = 20;
+
+    pub fn none() -> Fillings {
+        Fillings {
+            room: [0; Fillings::ROOM],
+            count: 0,
+        }
+    }
+
+    pub fn as_slice(&self) -> &[u64] {
+        &self.room[..self.count.min(Fillings::ROOM)]
+    }
+
+    // One filling more, unless the room is full.
+    fn add(&mut self, filling: u64) -> Option<()> {
+        let n = self.count;
+        if n >= Fillings::ROOM {
+            return None;
+        }
+        self.room[n] = filling;
+        self.count = n + 1;
+        Some(())
+    }
+}
 
 // 2 to the power n, or 0.
 pub fn power(n: usize) -> u64 {
@@ -88,7 +116,7 @@ pub fn obeys(rules: &[Rule], filling: u64) -> bool {
 
 // How many fillings are gone through: all of them, unless there are too many.
 pub fn number_of(variables: usize) -> Option<u64> {
-    if variables <= VARIABLES {
+    if variables <= Fillings::VARIABLES {
         Some(power(variables))
     } else {
         None
@@ -97,10 +125,10 @@ pub fn number_of(variables: usize) -> Option<u64> {
 
 // All fillings that obey a book's rules, unless there are too many to be gone through, or to be at hand.
 pub fn obeying(b: &Reckoned) -> Option<Fillings> {
-    let mut found = ArrayVec::new();
+    let mut found = Fillings::none();
     for filling in 0..number_of(b.variables)? {
-        if obeys(&b.rules, filling) {
-            found.try_push(filling).ok()?;
+        if obeys(b.rules.as_slice(), filling) {
+            found.add(filling)?;
         }
     }
     Some(found)
@@ -134,7 +162,7 @@ pub fn first_model(fillings: &[u64], all: Literals) -> Option<u64> {
 pub fn first_of_book(b: &Reckoned) -> Option<u64> {
     let mut first = None;
     for filling in 0..number_of(b.variables)? {
-        if obeys(&b.rules, filling) && holds(filling, b.facts) {
+        if obeys(b.rules.as_slice(), filling) && holds(filling, b.facts) {
             first = earlier(first, filling);
         }
     }

@@ -2,20 +2,22 @@
 use crate::fillings;
 use samples::reckon::Reckoned;
 
-// The words of a set, which have bits for ten choices.
-const WORDS: usize = 16;
-
-const CHOICES: usize = 10;
-
 #[derive(Clone, Copy, Debug, Default, PartialEq, Eq)]
 pub struct Restricted {
-    bits: [u64; WORDS],
+    bits: [u64; Restricted::WORDS],
+}
+
+impl Restricted {
+    // The words of a set, which have bits for ten choices.
+    pub const WORDS: usize = 16;
+
+    pub const CHOICES: usize = 10;
 }
 
 // One filling of the choices more. Where it has no bit, the set stays as it is.
 fn with(mut set: Restricted, filling: u64) -> Restricted {
     let word = (filling / 64 % 65536) as usize;
-    if word < WORDS {
+    if word < Restricted::WORDS {
         set.bits[word] |= fillings::power((filling % 64) as usize);
     }
     set
@@ -23,13 +25,13 @@ fn with(mut set: Restricted, filling: u64) -> Restricted {
 
 // The set of a book, unless it has too many choices, or too many variables to be gone through.
 pub fn of_book(b: &Reckoned) -> Option<Restricted> {
-    if b.choices > CHOICES {
+    if b.choices > Restricted::CHOICES {
         return None;
     }
     let choices = fillings::first(b.choices);
     let mut set = Restricted::default();
     for filling in 0..fillings::number_of(b.variables)? {
-        if fillings::obeys(&b.rules, filling) {
+        if fillings::obeys(b.rules.as_slice(), filling) {
             set = with(set, filling & choices);
         }
     }

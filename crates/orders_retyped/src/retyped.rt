@@ -1,6 +1,7 @@
 // Books and the same retyped. That they have the same fillings of the choices is reckoned and not asked of the engine.
 use crate::retyped_asked;
 use crate::retyped_asked::Two;
+use brute_force::fillings::Fillings;
 use brute_force::{fillings, restricted};
 use engine_checks::tally::{Group, Kind, Tally};
 use engine_checks::walks::Case;
@@ -26,7 +27,7 @@ fn same_fillings(a: &Reckoned, b: &Reckoned) -> bool {
 // What is reckoned of two books, then what the engine answers to both. Their first models may differ in the helpers.
 fn compared(t: &mut Tally, two: Two<'_>, a: &Reckoned, b: &Reckoned, seed: u64) {
     t.note(Group::SameFillings, same_fillings(a, b));
-    let all = fillings::obeying(a).unwrap_or_default();
+    let all = fillings::obeying(a).unwrap_or(Fillings::none());
     let due = compare::due_of(a, all.as_slice());
     let model = fillings::first_of_book(b).ok_or(compare::NO_MODEL);
     t.note(Group::Model, compare::model_agrees(two.first, due));

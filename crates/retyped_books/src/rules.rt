@@ -40,7 +40,7 @@ impl Rules {
 
 pub fn of_book(b: &Reckoned, seed: u64) -> Rules {
     let mut room = [Literals::default(); limits::MASKS];
-    for (kept, rule) in room.iter_mut().zip(&b.rules) {
+    for (kept, rule) in room.iter_mut().zip(b.rules.as_slice()) {
         *kept = rule.literals;
     }
     Rules {

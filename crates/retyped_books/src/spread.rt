@@ -2,12 +2,11 @@
 // before it stands three variables lower, the last helper becomes the last variable. The variables stay in their order, so
 // that what follows and by which steps stays too, but for the variables.
 use crate::{rules, written};
-use arrayvec::ArrayVec;
 use brute_force::fillings;
 use brute_force::fillings::Literals;
 use samples::build::Draft;
 use samples::limits;
-use samples::reckon::{Reckoned, Rule};
+use samples::reckon::{Reckoned, Rule, Rules};
 
 // How many variables and choices the small book has: at most ten choices, and at most sixteen helpers.
 #[derive(Clone, Copy)]
@@ -71,11 +70,11 @@ fn costs(b: &Reckoned) -> [[u16; 2]; limits::COSTS] {
 }
 
 // The rules in the large book.
-fn rules_of(b: &Reckoned) -> ArrayVec<Rule, { limits::MASKS }> {
+fn rules_of(b: &Reckoned) -> Rules {
     let small = small_of(b);
-    let mut made = ArrayVec::new();
-    for rule in &b.rules {
-        let _ = made.try_push(Rule {
+    let mut made = Rules::new();
+    for rule in b.rules.as_slice() {
+        made.push(Rule {
             literals: literals(small, rule.literals),
             window: None,
         });

@@ -5,9 +5,10 @@ use crate::{build, limits, reckon, windows};
 
 // A rule's count, which is refused before its literals are waited for. A rule of no literals ends with it.
 pub fn count(m: &mut Machine, b: u8) -> Result<(), Refused> {
-    if b > limits::LITERALS || m.rules.try_push(Rule::default()).is_err() {
+    if b > limits::LITERALS || m.rules.is_full() {
         return Err(m.refused(5));
     }
+    m.rules.push(Rule::default());
     m.awaited = if b == 0 {
         Awaited::FirstLetter
     } else {
@@ -84,14 +85,14 @@ fn rule_field(m: &mut Machine, b: u8) {
         m.bad = Some(6);
     }
     m.last = v;
-    if let Some(rule) = m.rules.last_mut() {
+    if let Some(rule) = m.rules.as_mut_slice().last_mut() {
         rule.literals = with(rule.literals, b);
     }
 }
 
 // One byte of a window, which is judged once its last one is there.
 fn window_field(m: &mut Machine, b: u8) {
-    if let Some(rule) = m.rules.last_mut() {
+    if let Some(rule) = m.rules.as_mut_slice().last_mut() {
         let window = windows::with_byte(rule.window.unwrap_or_default(), m.left, b);
         rule.window = Some(window);
         if m.left == 1 && !windows::can_be(window) {

@@ -1,7 +1,6 @@
 // The state of the pass over a book's bytes.
 use crate::limits;
-use crate::reckon::{Literals, Refused, Rule};
-use arrayvec::ArrayVec;
+use crate::reckon::{Literals, Refused, Rules};
 
 // What the next byte is taken for.
 #[derive(Clone, Copy, Debug, PartialEq, Eq)]
@@ -22,7 +21,7 @@ pub struct Header {
 }
 
 // What is remembered from one byte to the next.
-#[derive(Drop)]
+#[derive(Clone, Copy)]
 pub struct Machine {
     pub awaited: Awaited,
     pub at: usize,
@@ -41,7 +40,7 @@ pub struct Machine {
     pub last_fact: u8,
     // What has been read: the costs, the rules begun, each with its window, and the facts.
     pub costs: [[u16; 2]; limits::COSTS],
-    pub rules: ArrayVec<Rule, { limits::MASKS }>,
+    pub rules: Rules,
     pub facts: Literals,
 }
 
@@ -60,7 +59,7 @@ impl Machine {
             last: 0,
             last_fact: 0,
             costs: [[0; 2]; limits::COSTS],
-            rules: ArrayVec::new(),
+            rules: Rules::new(),
             facts: Literals::default(),
         }
     }

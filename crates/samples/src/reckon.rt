@@ -3,7 +3,6 @@
 use crate::machine::{Awaited, Header, Machine};
 use crate::windows::Window;
 use crate::{fields, limits};
-use arrayvec::ArrayVec;
 
 // Literals as masks: the variables said yes of and those said no of. Bit v - 1 stands for variable v.
 #[derive(Clone, Copy, Debug, Default, PartialEq, Eq)]
@@ -27,12 +26,59 @@ pub struct Rule {
     pub window: Option<Window>,
 }
 
+// The rules of a book, one after another. Their number stands beside their room, and not in an `ArrayVec`, since a reckoned
+// book is `Copy`.
+#[derive(Clone, Copy)]
+pub struct Rules {
+    room: [Rule; limits::MASKS],
+    count: usize,
+}
+
+impl Rules {
+    pub fn new() -> Rules {
+        Rules {
+            room: [Rule::default(); limits::MASKS],
+            count: 0,
+        }
+    }
+
+    pub fn as_slice(&self) -> &[Rule] {
+        &self.room[..self.count.min(limits::MASKS)]
+    }
+
+    pub fn as_mut_slice(&mut self) -> &mut [Rule] {
+        let count = self.count.min(limits::MASKS);
+        &mut self.room[..count]
+    }
+
+    pub fn len(&self) -> usize {
+        self.count
+    }
+
+    pub fn is_empty(&self) -> bool {
+        self.count == 0
+    }
+
+    pub fn is_full(&self) -> bool {
+        self.count >= limits::MASKS
+    }
+
+    // One rule more. A full room stays as it is.
+    pub fn push(&mut self, rule: Rule) {
+        let n = self.count;
+        if n < limits::MASKS {
+            self.room[n] = rule;
+            self.count = n + 1;
+        }
+    }
+}
+
 // A book as reckoned. The costs are those of yes and of no, choice by choice.
-#[derive(Drop)]
+#[derive(Clone, Copy)]
 pub struct Reckoned {
     pub variables: usize,
     pub choices: usize,
-    pub rules: ArrayVec<Rule, { limits::MASKS }>,
+    pub rules: Rules,
     pub facts: Literals,
     pub costs: [[u16; 2]; limits::COSTS],
 }
@@ -74,7 +120,8 @@ fn second_of(first: u8) -> Option<u8> {
 
 // Whether a window may stand here: one after each rule, and none after a fact.
 fn may_have_window(m: &Machine) -> bool {
-    m.last_fact == 0 && m.rules.last().is_some_and(|rule| rule.window.is_none())
+    let last = m.rules.as_slice().last();
+    m.last_fact == 0 && last.is_some_and(|rule| rule.window.is_none())
 }
 
 // Whether the mark of these two letters may stand here.
@@ -164,11 +211,12 @@ pub fn reckon(s: &[u8]) -> Result<Reckoned, Refused> {
 // Whether a book holds a rule of no literals.
 pub fn has_empty_rule(b: &Reckoned) -> bool {
     b.rules
+        .as_slice()
         .iter()
         .any(|rule| rule.literals == Literals::default())
 }
 
 // Whether a book holds a window.
 pub fn has_window(b: &Reckoned) -> bool {
-    b.rules.iter().any(|rule| rule.window.is_some())
+    b.rules.as_slice().iter().any(|rule| rule.window.is_some())
 }
