@@ -149,10 +149,11 @@ impl Tally {
         self.groups[group as usize].counts.note(agrees);
     }
 
-    // One more text of a group, refused with a number or not.
+    // One more text of a group, refused with a number or not. The number 0 is no refusal's: a row of the table that names one
+    // which is 0 as a byte counts as one of a book.
     pub fn see(&mut self, group: Group, number: Option<u8>) {
         let answers = &mut self.groups[group as usize];
-        counts::count(&mut answers.written, number.is_none());
+        counts::count(&mut answers.written, number.is_none_or(|n| n == 0));
         counts::count(&mut answers.short, number == Some(8));
         counts::count(&mut answers.form, number == Some(12));
         counts::count(&mut answers.limit, number == Some(13));
