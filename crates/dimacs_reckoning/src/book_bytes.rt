@@ -1,6 +1,6 @@
 // The book that is made of a text, as bytes, and what its clauses were like.
 use crate::clause::Clause;
-use crate::reckon::Reckoned;
+use crate::reckon::{Numbers, Reckoned};
 use samples::build::Draft;
 use samples::{build, edits, limits};
 
@@ -32,10 +32,18 @@ fn noted(k: Kinds, c: &Clause) -> Kinds {
     Kinds {
         clauses: more(k.clauses, true),
         dropped: more(k.dropped, c.opposed),
-        empty: more(k.empty, c.literals.is_empty()),
+        empty: more(k.empty, c.is_empty()),
         repeated: more(k.repeated, c.repeated),
         moved: more(k.moved, c.moved && !c.opposed),
     }
+}
+
+fn literals(d: Draft, c: &Clause) -> Draft {
+    let mut made = d;
+    for i in 0..c.len() {
+        made = build::put(made, c.at(i));
+    }
+    made
 }
 
 // A clause is whole: its rule is put, or it is dropped.
@@ -44,9 +52,9 @@ fn closed(m: Made, c: &Clause) -> Made {
     if c.opposed {
         return Made { kinds, ..m };
     }
-    let with_count = build::rule(m.book, (c.literals.len() % 256) as u8);
+    let with_count = build::rule(m.book, (c.len() % 256) as u8);
     Made {
-        book: build::bytes(with_count, &c.literals),
+        book: literals(with_count, c),
         kept: m.kept.wrapping_add(1),
         kinds,
     }
@@ -64,10 +72,11 @@ fn begun(variables: u8) -> Made {
 }
 
 // All numbers of the clauses.
-fn with_clauses(m: Made, numbers: &[u8]) -> Made {
+fn with_clauses(m: Made, numbers: &Numbers) -> Made {
     let mut made = m;
     let mut clause = Clause::empty();
-    for &n in numbers {
+    for i in 0..numbers.len() {
+        let n = numbers.at(i);
         if n == 0 {
             made = closed(made, &clause);
             clause = Clause::empty();

@@ -1,9 +1,5 @@
 // The state of the pass over a text's bytes.
-use crate::reckon::Refused;
-use arrayvec::ArrayVec;
-
-// Of the texts that are tried, none has more numbers.
-pub const NUMBERS: usize = 2048;
+use crate::reckon::{Numbers, Refused};
 
 #[derive(Clone, Copy, Debug, PartialEq, Eq)]
 pub enum State {
@@ -29,7 +25,7 @@ pub enum State {
 }
 
 // What is remembered from one byte to the next.
-#[derive(Drop)]
+#[derive(Clone, Copy)]
 pub struct Machine {
     pub state: State,
     pub at: usize,
@@ -42,7 +38,7 @@ pub struct Machine {
     pub left: u64,
     // The numbers of clauses that are begun, the last of them so far as it was read; and how many there were where the
     // clause in hand began.
-    pub numbers: ArrayVec<u8, NUMBERS>,
+    pub numbers: Numbers,
     pub first: usize,
     // Where the first byte of the clause in hand is, once it was met.
     pub clause_begin: Option<usize>,
@@ -58,7 +54,7 @@ impl Machine {
             minus: false,
             variables: 0,
             left: 0,
-            numbers: ArrayVec::new(),
+            numbers: Numbers::new(),
             first: 0,
             clause_begin: None,
         }

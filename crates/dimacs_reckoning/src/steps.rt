@@ -65,9 +65,7 @@ fn move_to(m: &mut Machine, state: Option<State>) -> Result<(), Refused> {
 fn keep_number(m: &mut Machine) {
     let n = (m.value % 256) as u8;
     let literal = if m.minus { build::negated(n) } else { n };
-    if let Some(last) = m.numbers.last_mut() {
-        *last = literal;
-    }
+    m.numbers.set_last(literal);
 }
 
 // The number in hand has a digit more: it is what it says so far, or is too large.
@@ -126,7 +124,7 @@ fn in_number(m: &mut Machine, b: u8, next: Option<State>) -> Result<(), Refused>
 // The first digit of a literal, with a minus before it or without.
 fn begin_literal(m: &mut Machine, b: u8, minus: bool) -> Result<(), Refused> {
     m.minus = minus;
-    let _ = m.numbers.try_push(0);
+    m.numbers.begin();
     begin_number(m, b, State::InLiteral)
 }
 
@@ -134,7 +132,7 @@ fn begin_literal(m: &mut Machine, b: u8, minus: bool) -> Result<(), Refused> {
 fn close_clause(m: &mut Machine) {
     m.minus = false;
     m.value = 0;
-    let _ = m.numbers.try_push(0);
+    m.numbers.begin();
     m.left = m.left.wrapping_sub(1);
     m.state = State::Closed;
 }
