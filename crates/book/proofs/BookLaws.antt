@@ -8,7 +8,6 @@ use lib.ListN.{length}
 use Rattle.std.specs.Prelude.{Result, Ok, Err, MatchResult}
 use Rattle.literals.specs.Literal.{Literal}
 use Rattle.literals.specs.declared.LiteralSet.{LiteralSet}
-use Rattle.arrayvec.specs.ArrayVec.{ArrayVec}
 use Rattle.records.specs.Format.{says, Read, value, refused, and_then, Header, Cost, Rule, OrderBook, book_ends, header_at, cost_from, many, facts_from, rule_from, from_rules, read_book}
 use Rattle.records.specs.Promises.{record_answer, read_answer, counts, masks}
 use Rattle.records.specs.Refusals.{refusal_of}
@@ -46,7 +45,7 @@ ends_well : (s : List ℕ) (b : OrderBook) {end : ℕ} → length s ≤ end → 
 ends_well s b l = rw (le-ltb _ _ l) refl
 
 -- the book that is kept, from its parts
-kept_parts : (h : Header) (cs : List Cost) (rs : List Rule) (fs : List Literal) {k : kept_counts.Header} {costs : List (List ℕ)} {rules : ArrayVec kept.Rule}
+kept_parts : (h : Header) (cs : List Cost) (rs : List Rule) (fs : List Literal) {k : kept_counts.Header} {costs : List (List ℕ)} {rules : List kept.Rule}
     {facts : LiteralSet} → k ≡ counts h 5 → costs ≡ table cs → rules ≡ kept_rules rs → facts ≡ masks fs
     → record { variables = k.variables; choices = k.choices; costs = costs; rules = rules; facts = facts }
     ≡ masked_book (record { header = h; costs = cs; rules = rs; facts = fs })
@@ -68,7 +67,7 @@ module _ (s : List ℕ) {k : kept_counts.Header} (h : HeaderSaid s k) where
   abbrev pub costs_answer : Result (List (List ℕ) × ℕ) Refusal
   costs_answer = read_answer (λ cs next. (table cs, next)) (many (cost_from s) k.choices 1 5)
 
-  abbrev pub rules_answer : ℕ → Result (ArrayVec kept.Rule × ℕ) Refusal
+  abbrev pub rules_answer : ℕ → Result (List kept.Rule × ℕ) Refusal
   rules_answer place = read_answer (λ rs next. (kept_rules rs, next)) (many (λ i. rule_from s k.variables) k.rules 1 place)
 
   abbrev pub facts_answer : ℕ → Result (LiteralSet × ℕ) Refusal
@@ -108,7 +107,7 @@ module _ (s : List ℕ) {k : kept_counts.Header} (h : HeaderSaid s k) where
     unfolding book_answer after_costs
     refused_at_rule e = rw past_costs (then_err (λ rs next. (kept_rules rs, next)) _ _ _ e)
 
-    module _ {rules : ArrayVec kept.Rule} {at_facts : ℕ} (r : Ok (rules, at_facts) ≡ rules_answer at_rules) where
+    module _ {rules : List kept.Rule} {at_facts : ℕ} (r : Ok (rules, at_facts) ≡ rules_answer at_rules) where
       rules_said : (rs : List Rule) × (many (λ i. rule_from s k.variables) k.rules 1 at_rules ≡ value rs at_facts) × (rules ≡ kept_rules rs)
       rules_said =
           let p = then_ok (λ rs next. (kept_rules rs, next)) _ r in

@@ -14,7 +14,6 @@ use Rattle.records.specs.Limits.{max_literals, window_size}
 use Rattle.records.specs.Format.{says, value, Rule, opened, byte, rising, rule_at, rule_values, RL, window_from}
 use Rattle.records.specs.Format.{rule_from}
 use Rattle.records.proofs.CheckLaws.{Good, says_same, checked_first_says, check_says}
-use Rattle.arrayvec.specs.ArrayVec.{ArrayVec}
 use Rattle.records.specs.declared.Rule as kept
 use Rattle.book.specs.Answer.{kept_rule, kept_rules}
 use Rattle.book.proofs.ManyLaws.{WholeFrom}
@@ -73,6 +72,6 @@ module _ (s : List ℕ) (n place : ℕ) where
       record { item = r; said = rw same e; within = rw same (rule_read h e).1.within; holds = ap (λ t. t.0) f }
 
 -- one more rule is kept
-pub rules_more : (done : List Rule) (r : Rule) {v v' : ArrayVec kept.Rule} {k : kept.Rule} → v ≡ kept_rules done → v'.items ≡ v.items ++ (k ∷ []) → k ≡ kept_rule r
+pub rules_more : (done : List Rule) (r : Rule) {v v' : List kept.Rule} {k : kept.Rule} → v ≡ kept_rules done → v' ≡ v ++ (k ∷ []) → k ≡ kept_rule r
     → v' ≡ kept_rules (done ++ (r ∷ []))
-rules_more done r {v} {v'} e f g = ap (λ xs. record { items = xs }) (f ∙ rw (e, g) (sym (map-append kept_rule done (r ∷ []))))
+rules_more done r {v} {v'} e f g = f ∙ rw (e, g) (sym (map-append kept_rule done (r ∷ [])))

@@ -1,7 +1,6 @@
 -- What the reader's calls answer for each meaning of the bytes: document 01's check and place for a refusal, and the book as it is kept.
 use Rattle.std.specs.Prelude.{List, [], ◌∷◌, ◌++◌, map, ℕ, ◌-◌, length, replicate, Result}
 use Rattle.literals.specs.Truth.{yes_mask, no_mask}
-use Rattle.arrayvec.specs.ArrayVec.{ArrayVec}
 use Rattle.records.specs.Limits.{max_choices}
 use Rattle.records.specs.Format.{Cost, Rule, OrderBook, row, masks, Read, value, refused}
 use Rattle.records.specs.Refusals.{read_answer}
@@ -26,8 +25,8 @@ abbrev pub kept_rule : Rule → kept.Rule
 kept_rule r = record { literals = masks r.literals; applies = r.applies }
 
 -- Rules as they are kept, in their order.
-abbrev pub kept_rules : List Rule → ArrayVec kept.Rule
-kept_rules rs = record { items = map kept_rule rs }
+abbrev pub kept_rules : List Rule → List kept.Rule
+kept_rules rs = map kept_rule rs
 
 -- The costs as rows of two: row by variable, column by sign. Rows of 0 after the last choice.
 unfoldable pub table : List Cost → List (List ℕ)

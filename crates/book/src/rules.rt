@@ -6,13 +6,10 @@ ghost use Rattle.records.specs.Format.{window_from, rule_from, many};
 ghost use Rattle.records.specs.Promises.{read_answer};
 ghost use Rattle.book.specs.Answer.{kept_rule, kept_rules};
 
-use arrayvec::ArrayVec;
 use dates::Applies;
 use records::refusal::Refusal;
-use records::{Book, Rule, mark, rules, windows};
-
-// A capacity has to be a constant with a name of its own.
-const MAX_RULES: usize = Book::MAX_RULES;
+use records::rule_list::RuleList;
+use records::{Rule, mark, rules, windows};
 
 // The WN record that may stand at a place, after a rule: when the rule applies, and the place after the WN.
 fn read_window_from(s: &[u8], from: usize) -> Result<(Applies, usize), Refusal>
@@ -49,13 +46,13 @@ pub fn read_rules(
     n: usize,
     count: usize,
     from: usize,
-) -> Result<(ArrayVec<Rule, MAX_RULES>, usize), Refusal>
+) -> Result<(RuleList, usize), Refusal>
     requires n_le_width { n ≤ width }
     requires count_le_max_rules { count ≤ max_rules }
     requires from_in_bounds { from ≤ length s.now }
     ensures { result ≡ read_answer (λ rs next. (kept_rules rs, next)) (many (λ i. rule_from s.now n) count 1 from) }
 {
-    let mut rules = ArrayVec::new();
+    let mut rules = RuleList::new();
     let mut place = from;
     for _ in 0..count {
         let (rule, next) = read_rule_from(s, n, place)?;

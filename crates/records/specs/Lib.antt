@@ -3,3 +3,5 @@ pub mod Numbers
 pub mod Format
 pub mod Refusals
 pub mod Promises
+pub mod Rows
+pub mod Laws

@@ -6,12 +6,13 @@ pub mod facts;
 pub mod header;
 pub mod mark;
 pub mod refusal;
+pub mod rule_list;
 pub mod rules;
 pub mod windows;
 
-use arrayvec::ArrayVec;
 use dates::Applies;
 use literals::LiteralSet;
+use rule_list::RuleList;
 
 // A rule as it is kept: its literals as two masks, and when it applies.
 #[derive(Clone, Copy, Debug, Default, PartialEq, Eq)]
@@ -22,17 +23,14 @@ pub struct Rule {
 
 // A book as it is kept: the counts V and U, the costs of the choices, the rules, and the given facts.
 // Bit v - 1 of a mask stands for variable v. A row of the costs is a choice's, its yes first; the rows after the last choice are 0.
-#[derive(Drop)]
+#[derive(Clone, Copy)]
 pub struct Book {
     pub variables: usize,
     pub choices: usize,
     pub costs: [[u16; 2]; Book::MAX_CHOICES],
-    pub rules: ArrayVec<Rule, RULES>,
+    pub rules: RuleList,
     pub facts: LiteralSet,
 }
-
-// A capacity has to be a constant with a name of its own.
-const RULES: usize = Book::MAX_RULES;
 
 // The limits of a book, and of the log that is written for it.
 impl Book {

@@ -20,7 +20,7 @@ loop-preserved c =
     let g = c.loop.invariant in
     let read = rule_said _ _ _ g.within p.2 p.3 in
     many_more (λ i. rule_from _ _) _ _ _ _ _ g c.loop-test.true read
-    (λ done k. (length-append done (read.item ∷ []) ∙ ap (λ m. m + 1) k.0, rules_more done read.item k.1 c.push.ensures.items read.holds))
+    (λ done k. (length-append done (read.item ∷ []) ∙ ap (λ m. m + 1) k.0, rules_more done read.item k.1 c.push.ensures read.holds))
 
 pub returns : goal.returns
 returns c =

@@ -1,0 +1,6 @@
+-- `RuleList::new` meets its contract. Assumes nothing.
+use Rattle.records.specs.Laws.Rows.{rows_none}
+use Rattle.records.proofs.rule_list.RuleList.new.Goals as goal
+
+pub invariant_of-result : goal.invariant_of-result
+invariant_of-result c = rows_none

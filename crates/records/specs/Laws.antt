@@ -1,0 +1,2 @@
+-- The laws of records, by topic: lists that are kept in rows. Assumes nothing.
+pub mod Rows
