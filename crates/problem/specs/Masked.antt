@@ -20,7 +20,7 @@ abbrev pub masked_from : Moment → Book → MaskedProblem
 masked_from moment b =
     record {
       variables = b.variables;
-      rules = record { items = kept_in_force moment b.rules.items };
+      rules = kept_in_force moment b.rules;
       choices = full b.choices;
       costs = b.costs;
       facts = b.facts;
@@ -28,10 +28,10 @@ masked_from moment b =
 
 -- The masks of the rules, as a search is handed them.
 abbrev pub yes_in : MaskedProblem → List ℕ
-yes_in p = yes_masks p.rules.items
+yes_in p = yes_masks p.rules
 
 abbrev pub no_in : MaskedProblem → List ℕ
-no_in p = no_masks p.rules.items
+no_in p = no_masks p.rules
 
 -- What is said of a number of variables and of rules, as said of a problem.
 abbrev pub of_rules : {A : Type 1} → (ℕ → List ℕ → List ℕ → A) → MaskedProblem → A

@@ -7,37 +7,36 @@ ghost use Rattle.dates.specs.Windows.{is_moment};
 ghost use Rattle.problem.specs.Limits.{most_rules};
 ghost use Rattle.problem.specs.Masked.{kept_in_force, masked_from};
 
-use arrayvec::ArrayVec;
+pub mod masked_rules;
+
 use book::Book;
 use dates::Moment;
 use literals::LiteralSet;
+use masked_rules::MaskedRules;
 use sat::Formula;
-
-// The most rules of a problem: the book's and one more for each choice. It stands outside `MaskedProblem`, since a capacity has to
-// be a constant with a name of its own.
-const MAX_RULES: usize = Book::MAX_RULES + Book::MAX_CHOICES;
 
 // The number of variables, the rules, each as two masks, the set of choices, the costs of the literals over choices, row by
 // variable and column by sign, and the given facts. Bit v - 1 of a mask stands for variable v.
-#[derive(Drop)]
+#[derive(Clone, Copy)]
 pub struct MaskedProblem {
     pub variables: u32,
-    pub rules: ArrayVec<LiteralSet, MAX_RULES>,
+    pub rules: MaskedRules,
     pub choices: u64,
     pub costs: [[u16; 2]; Book::MAX_CHOICES],
     pub facts: LiteralSet,
 }
 
-// The limits of a problem: its rules; and room for one rule beyond them, which the consequence asks for.
+// The limits of a problem: the book's rules and one more for each choice; and room for one rule beyond them, which the
+// consequence asks for.
 impl MaskedProblem {
-    pub const MAX_RULES: usize = MAX_RULES;
+    pub const MAX_RULES: usize = Book::MAX_RULES + Book::MAX_CHOICES;
 
-    pub const RULES_AND_ONE: usize = MAX_RULES + 1;
+    pub const RULES_AND_ONE: usize = MaskedProblem::MAX_RULES + 1;
 
     // The rules over the problem's variables, as a search is asked for them.
     pub fn formula(&self) -> Formula<'_>
         ensures variables { result.variables ≡ self.now.variables }
-        ensures rules { result.rules.now ≡ self.now.rules.items }
+        ensures rules { result.rules.now ≡ self.now.rules }
         ensures few_rules { length result.rules.now ≤ most_rules }
     {
         Formula {
@@ -49,12 +48,12 @@ impl MaskedProblem {
 
 // The rules of a book that are in force at a moment, in the book's order.
 #[tactic(auto, using(crate::proofs::InForceLaws::picked_laws))]
-fn rules_in_force(b: &Book, moment: Moment) -> ArrayVec<LiteralSet, MAX_RULES>
+fn rules_in_force(b: &Book, moment: Moment) -> MaskedRules
     requires { is_moment moment ≡ true }
-    ensures { result.items ≡ kept_in_force moment b.now.rules.items }
+    ensures { result ≡ kept_in_force moment b.now.rules }
 {
     let weekday = dates::weekday(moment.date);
-    let mut rules = ArrayVec::new();
+    let mut rules = MaskedRules::new();
     for rule in b.rules.as_slice() {
         if dates::in_force(rule.applies, moment, weekday) {
             rules.push(rule.literals);

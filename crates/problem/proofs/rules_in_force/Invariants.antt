@@ -3,4 +3,4 @@ use Rattle.problem.proofs.InForceLaws.{Picked}
 use Rattle.problem.proofs.rules_in_force.Given as goal
 
 abbrev pub invariant-loop-rule : goal.invariant-loop-rule
-invariant-loop-rule l = Picked l.moment l.b.rules.items l.rules.items l.rule-index
+invariant-loop-rule l = Picked l.moment l.b.rules l.rules l.rule-index
