@@ -129,7 +129,7 @@ rules_windows rs = padded (window_row Applies.Always) max_rules (map (λ (r : Ru
 -- The book: every field of it.
 abbrev pub shown_book : Book → BookShown
 shown_book b =
-    as_book b.variables b.choices (length b.rules.items) (rules_yes b.rules.items) (rules_no b.rules.items) (rules_windows b.rules.items) b.facts.yes b.facts.no
+    as_book b.variables b.choices (length b.rules) (rules_yes b.rules) (rules_no b.rules) (rules_windows b.rules) b.facts.yes b.facts.no
 
 abbrev pub seen_book : Result Book Refusal → Outcome BookShown
 seen_book r = seen_as shown_book r

@@ -111,7 +111,7 @@ pub extern "C" fn why_read_book(
             *variables = b.variables as u64;
             *choices = b.choices as u64;
             *rules = b.rules.len() as u64;
-            pass_rules(&b.rules, rules_yes, rules_no, windows);
+            pass_rules(b.rules.as_slice(), rules_yes, rules_no, windows);
             *facts_yes = b.facts.yes;
             *facts_no = b.facts.no;
             0

@@ -13,4 +13,4 @@ pub returns-in-Ok : goal.returns-in-Ok
 returns-in-Ok c =
     let m = c.read_book.ensures in
     let p = c.pass_rules.ensures in
-    rw (p.yes_are, p.no_are, p.windows_are, c.deref.ensures.0, c.len.ensures.value) (seen_done m m (all_told _).book c.in-Ok.is refl)
+    rw (p.yes_are, p.no_are, p.windows_are, c.as_slice.ensures.rules, c.len.ensures) (seen_done m m (all_told _).book c.in-Ok.is refl)
