@@ -1,19 +1,25 @@
 -- A list that is kept in the rows of an array: made with none, one entry more, and given back from its entries.
 -- Assumes nothing.
-use mathlib.Core.Path.{◌≡◌, refl, sym, ap, ◌∙◌}
-use mathlib.Core.List.{List, [], ◌∷◌, ◌++◌}
+use mathlib.Core.Path.{◌≡◌, sym, ap, ◌∙◌}
+use mathlib.Core.List.{List, ◌++◌}
 use Prim.Native.Nat.{ℕ, suc, ◌+◌, ◌-◌, ◌≤◌, ◌<◌}
-use native.Mathlib.Nat.{sub-zero}
 use native.Mathlib.Omega.{arith}
 use lib.ListN.{length, set, take, drop, replicate, length-set, length-replicate}
 use Rattle.std.proofs.Common.{take-append-drop, length-take-le}
-use Rattle.std.proofs.lemmas.List.{drop-drop, drop-set-lt}
+use Rattle.std.proofs.lemmas.List.{replicate-append-replicate, drop_at, drop-drop, drop-set-lt}
 use Rattle.records.specs.Rows.{RowsKept, rows_of}
 
 module _ {A : Type 0} {most : ℕ} {blank : A} where
-  -- no entries: all rows are blank
-  pub rows_none : RowsKept most blank 0 (replicate most blank)
-  rows_none = record { few = omega arith; room = length-replicate most blank; rest = rw sub-zero refl }
+  -- all rows are blank
+  pub rows_blank : {count : ℕ} → count ≤ most → RowsKept most blank count (replicate most blank)
+  rows_blank {count} l =
+      let whole : replicate count blank ++ replicate (most - count) blank ≡ replicate most blank =
+      replicate-append-replicate count (most - count) blank ∙ ap (λ n. replicate n blank) (omega (arith, l)) in
+      record {
+        few = l;
+        room = length-replicate most blank;
+        rest = sym (ap (drop count) whole) ∙ drop_at (replicate count blank) _ count (length-replicate count blank);
+      }
 
   module _ {count : ℕ} {rows : List A} (k : RowsKept most blank count rows) where
     pub count_back : length (take count rows) ≡ count

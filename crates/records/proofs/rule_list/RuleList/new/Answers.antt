@@ -1,6 +1,7 @@
 -- `RuleList::new` meets its contract. Assumes nothing.
-use Rattle.records.specs.Laws.Rows.{rows_none}
+use Rattle.std.proofs.Common.{arith}
+use Rattle.records.specs.Laws.Rows.{rows_blank}
 use Rattle.records.proofs.rule_list.RuleList.new.Goals as goal
 
 pub invariant_of-result : goal.invariant_of-result
-invariant_of-result c = rows_none
+invariant_of-result c = rows_blank (omega arith)
