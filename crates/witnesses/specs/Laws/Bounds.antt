@@ -18,7 +18,13 @@ use Rattle.witnesses.specs.declared.Aim.{Aim}
 use Rattle.witnesses.specs.declared.Part.{Part}
 use Rattle.witnesses.specs.declared.bound.Bounds.{Bounds}
 
--- ---- `open_witness`
+-- ---- `makes_true` and `open_witness`
+
+pub true_yes : (aim : Aim) (f : ℕ) {h : Bool} → h ≡ has f aim.goal → aim.says ≡ true → h ≡ makes_true aim f
+true_yes aim f e s = rw s e
+
+pub true_no : (aim : Aim) (f : ℕ) {h : Bool} → h ≡ has f aim.goal → aim.says ≡ false → not h ≡ makes_true aim f
+true_no aim f e s = rw s (ap not e)
 
 false_denies : (aim : Aim) (f : ℕ) → makes_true aim f ≡ false → Denies aim f
 false_denies aim f = go aim.says (has f aim.goal) refl
