@@ -1,5 +1,5 @@
 -- The search of a part: a law for each step of `explore`, from those of crate `items`. Assumes nothing.
-use Rattle.std.specs.Prelude.{◌≡◌, List, ℕ, ◌-◌, ◌<◌, Some, None}
+use Rattle.std.specs.Prelude.{◌≡◌, refl, List, ℕ, ◌-◌, ◌<◌, Some, None}
 use Rattle.std.proofs.Common.{arith}
 use Rattle.sets.specs.Sets.{union, insert, remove, Within}
 use Rattle.sets.specs.Laws.Bits.{member_lt}
@@ -20,6 +20,10 @@ use Rattle.reasons.specs.declared.split.Cut.{Cut}
 -- ---- `explore`
 
 module _ {n : ℕ} {ys ns ws : List ℕ} {aim : Aim} {part : Part} where
+  pub remaining_start : {best : ℕ} {ms : List ℕ} → Exploring n ys ns ws aim part → Pooled n ys ns ms
+      → Remaining n ys ns ws aim part best ms part best
+  remaining_start x p = record { exploring = x; same_chosen = refl; smaller = omega arith; pooled = p; finish = λ r l. l }
+
   module _ {best least : ℕ} {ms : List ℕ} {rest : Part} (m : Remaining n ys ns ws aim part best ms rest least) {us : List ℕ} {now : ℕ} where
     pub remaining_done : CutUp n ys ns ws aim rest least us now None → Explored n ys ns ws aim part best us now
     remaining_done s = record { cheapest = m.finish now s.said.cheapest; pooled = s.said.pooled }
