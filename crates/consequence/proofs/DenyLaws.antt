@@ -1,20 +1,43 @@
--- One rule more at the end of the rules: what the search finds. Assumes nothing.
+-- One rule more at the end of the rules: the search is posed again, and what it finds. Assumes nothing.
 use mathlib.Core.Path.{◌≡◌, refl, sym, ap, ◌∙◌}
 use mathlib.Core.Bool.{true, ◌&&◌, and-true, and_assoc}
 use mathlib.Core.List.{List, [], ◌∷◌, ◌++◌, map-append}
 use Rattle.std.specs.Prelude.{Option, Some, None}
-use Prim.Native.Nat.{ℕ}
+use Prim.Native.Nat.{ℕ, ◌^◌, ◌<◌}
+use native.Mathlib.Decide.{dec_lt}
 use native.Mathlib.Omega.{arith}
-use lib.ListN.{length}
+use lib.ListN.{length, get_or, length-append, get_or-append}
+use lib.Seq.{get_or_at}
 use Rattle.literals.specs.Truth.{obeys_masks}
 use Rattle.literals.specs.Laws.{and_both}
 use Rattle.literals.specs.declared.LiteralSet.{LiteralSet}
-use Rattle.propagation.specs.Promises.{yes_masks, no_masks}
+use Rattle.propagation.specs.Promises.{MasksBelow, yes_masks, no_masks}
 use Rattle.sat.specs.Meaning.{obeys_all, Model}
 use Rattle.sat.specs.Promises.{Posed, Searched}
 use Rattle.sat.specs.Laws.Assigns.{model_rules}
 use Rattle.consequence.specs.Algorithm2.{Denies}
 use Rattle.consequence.specs.Promises.{Denied}
+
+masks_snoc : (n : ℕ) (ms : List ℕ) (m : ℕ) → MasksBelow n ms → m < 2 ^ n → MasksBelow n (ms ++ (m ∷ []))
+masks_snoc n ms m a h = record { below = λ i l. go i l (dec_lt i (length ms)) }
+  where
+    go : (i : ℕ) → i < length (ms ++ (m ∷ [])) → Dec (i < length ms) → get_or (ms ++ (m ∷ [])) i 0 < 2 ^ n
+    go i l (yes k) = rw (get_or-append ms (m ∷ []) 0 i k) (a.below i k)
+    go i l (no k) =
+        let end : length ms ≡ i = omega (arith, length-append ms (m ∷ [])) in
+        rw (get_or_at ms m [] 0 i end) h
+
+pub posed_more : {n : ℕ} {ys ns : List ℕ} {on off : ℕ} (y m : ℕ) → Posed n ys ns on off → y < 2 ^ n → m < 2 ^ n
+    → Posed n (ys ++ (y ∷ [])) (ns ++ (m ∷ [])) on off
+posed_more {n} {ys} {ns} y m p hy hm = record {
+  small = p.small;
+  paired = rw (length-append ys (y ∷ []), length-append ns (m ∷ []), p.paired) refl;
+  yes_masks = masks_snoc n ys y p.yes_masks hy;
+  no_masks = masks_snoc n ns m p.no_masks hm;
+  on_below = p.on_below;
+  off_below = p.off_below;
+  apart = p.apart;
+}
 
 -- ---- its models
 
