@@ -1,12 +1,14 @@
 -- What stands at a place of a text, and runs of bytes that pass a test.
 -- Assumes nothing.
-use mathlib.Core.Path.{◌≡◌, refl, ap, ◌∙◌}
+use mathlib.Core.Path.{◌≡◌, refl, sym, ap, ◌∙◌}
+use mathlib.Core.Logic.{by_cases}
 use mathlib.Core.Bool.{Bool, true, false, cond}
 use mathlib.Core.List.{List, [], ◌∷◌}
 use Prim.Native.Nat.{ℕ, suc, ◌+◌, ◌-◌, ◌≤◌, ◌<◌}
+use native.Mathlib.Decide.{dec_lt}
 use native.Mathlib.Numerals.{add-one}
 use native.Mathlib.Omega.{arith}
-use borrow.Author.Tests.{ltb-true}
+use borrow.Author.Tests.{lt-ltb, ltb-true}
 use lib.Dec.{ltb}
 use lib.ListN.{length, get_or, take, drop, length-drop, drop_of_length-le}
 use lib.Seq.{drop-cons}
@@ -60,12 +62,23 @@ module _ (s : List ℕ) (test : ℕ → Bool) (place : ℕ) where
   unfolding stands
   stands_passes e = (and_both (ltb place (length s)) _ e).1
 
+  pub stands_here : place < length s → stands s test place ≡ test (byte s place)
+  unfolding stands
+  stands_here h = rw (lt-ltb _ _ h) refl
+
   -- a run goes on where a byte passes, and ends where none does
   pub after_more : stands s test place ≡ true → after s test place ≡ after s test (place + 1)
   unfolding after run
   after_more e =
       let h = stands_within e in
       rw (drop-cons s place 0 h, stands_passes e, add-one place) (omega arith)
+
+  pub after_stop : stands s test place ≡ false → after s test place ≡ place
+  unfolding after run
+  after_stop e =
+      by_cases (dec_lt place (length s))
+      (λ h. let fails : test (byte s place) ≡ false = sym (stands_here h) ∙ e in rw (drop-cons s place 0 h, fails) (omega arith))
+      (λ h. let past : length s ≤ place = omega arith in rw (drop_of_length-le s past) (omega arith))
 
   pub after_from : place ≤ after s test place
   unfolding after

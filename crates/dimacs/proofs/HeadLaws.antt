@@ -64,6 +64,9 @@ module _ (s : List ℕ) where
     pub left : comments_left 0 ≡ comments_left place
     pub upto : place ≤ length s
 
+  pub skipped_none : Skipped 0
+  skipped_none = record { left = refl; upto = omega arith }
+
   module _ {place : ℕ} (g : Skipped place) where
     pub skipped_all : stands s (is 0x63) place ≡ false → comments_left 0 ≡ value tt place
     unfolding comments
