@@ -1,16 +1,16 @@
--- Literals as signed bytes: reading the cost of one, and handing one on. Assumes nothing.
-use mathlib.Core.Path.{◌≡◌, sym, ap, ◌∙◌}
+-- Literals as signed bytes: reading the cost of one, making one, and handing one on. Assumes nothing.
+use mathlib.Core.Path.{◌≡◌, refl, sym, ap, ◌∙◌}
 use mathlib.Core.Bool.{Bool, true, false}
 use mathlib.Core.List.{List, []}
-use Prim.Native.Nat.{ℕ, zero, suc, ◌-◌, ◌≤◌, ◌<◌}
+use Prim.Native.Nat.{ℕ, zero, suc, ◌+◌, ◌-◌, ◌≤◌, ◌<◌}
 use native.Mathlib.Omega.{arith}
-use lib.IntN.{ℤ, pos, negsuc}
+use lib.IntN.{ℤ, pos, negsuc, ◌-ℤ◌}
 use lib.ListN.{get_or}
 use lib.Signed.{lt_z}
 use borrow.Author.Tests.{lt-ltb}
 use mir.Syntax.{w8}
-use mir.Val.{to_z, of_z}
-use mir.Facts.{to_z-of_z}
+use mir.Val.{SFits, to_z, of_z}
+use mir.Facts.{to_z_pos, to_z-of_z}
 use Rattle.sets.specs.Sets.{width}
 use Rattle.literals.specs.Literal.{variable, literal_of}
 use Rattle.records.specs.Limits.{max_choices}
@@ -33,6 +33,24 @@ read_cost b table l r e h t = ap (λ (s : Bool). get_or (get_or table (r - 1) []
         let i : r - 1 ≡ v = omega arith in
         rw (lt-ltb 0 (suc v) (omega arith)) (ap (λ (x : ℕ). get_or (get_or table x []) 0 0) i)
     go (negsuc v) e h = let i : r - 1 ≡ v = omega arith in ap (λ (x : ℕ). get_or (get_or table x []) 1 0) i
+
+-- ---- `literal`
+
+-- v + 1 as a signed byte, and its opposite
+plain : (v : ℕ) → v < width → to_z w8 (v + 1) ≡ pos (suc v)
+plain v h = let small : v + 1 < 128 = omega arith in to_z_pos w8 small ∙ ap pos (omega arith)
+
+minus : (v : ℕ) → v < width → pos 0 -ℤ to_z w8 (v + 1) ≡ negsuc v
+minus v h = rw (plain v h) (rw (lt-ltb 0 (suc v) (omega arith)) (ap negsuc (omega arith)))
+
+pub opposite_fits : (v : ℕ) → v < width → SFits w8 (pos 0 -ℤ to_z w8 (v + 1))
+opposite_fits v h = rw (minus v h) (record { sfits = omega arith })
+
+pub yes_literal : (v : ℕ) (says : Bool) → v < width → says ≡ true → to_z w8 (v + 1) ≡ literal_of v says
+yes_literal v says h e = rw (e, plain v h) refl
+
+pub no_literal : (v : ℕ) (says : Bool) → v < width → says ≡ false → to_z w8 (of_z w8 (pos 0 -ℤ to_z w8 (v + 1))) ≡ literal_of v says
+no_literal v says h e = rw (to_z-of_z (opposite_fits v h)) (rw e (minus v h))
 
 -- ---- a literal that is handed on
 

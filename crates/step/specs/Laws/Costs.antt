@@ -14,7 +14,7 @@ use Rattle.sets.specs.Laws.Bits.{bit_le, bit_union, bit_inter}
 use Rattle.sets.specs.Laws.Subset.{has_true, has_false, within_refl, within_insert}
 use Rattle.items.specs.Weights.{sum_below, total}
 use Rattle.items.specs.Promises.{weight_in}
-use Rattle.items.specs.Laws.Sums.{sum_same, sum_add, sum_times, sum_bound, digits_sum, digits_count, total_le, total_insert, total_width}
+use Rattle.items.specs.Laws.Sums.{sum_same, sum_add, sum_times, sum_bound, sum_part, digits_sum, digits_count, total_le, total_insert, total_width}
 use Rattle.literals.specs.Literal.{literal_of}
 use Rattle.records.specs.Limits.{max_choices}
 use Rattle.problem.specs.Problem.{cost_of, literal_cost}
@@ -178,3 +178,26 @@ sum_taken ws (suc n) h =
 pub sum_all : (ws : List ℕ) → length ws ≡ max_choices → sum ws ≡ sum_of ws
 sum_all ws e =
     sym (ap (λ (n : ℕ). sum_below n (weight_in ws)) (sym e) ∙ sum_taken ws (length ws) (omega arith) ∙ ap sum (take-length ws))
+
+-- ---- the weights summed one by one
+
+-- A sum of the first i weights.
+pub record SummedTo (ws : List ℕ) (sum i : ℕ) : Type 0 where
+  pub done : i ≤ max_choices
+  pub is : sum ≡ sum_below i (weight_in ws)
+
+module _ {ws : List ℕ} where
+  pub summed_none : SummedTo ws 0 0
+  unfolding sum_below
+  summed_none = record { done = omega arith; is = refl }
+
+  pub summed_more : {sum i : ℕ} → SummedTo ws sum i → i < max_choices → SummedTo ws (sum + weight_in ws i) (i + 1)
+  unfolding sum_below
+  summed_more x h = rw add-one (record { done = omega arith; is = omega (arith, x.is) })
+
+  -- no part of the sum is above it
+  pub summed_fits : {sum i : ℕ} → SummedTo ws sum i → i < max_choices → sum + weight_in ws i ≤ sum_of ws
+  summed_fits {sum} {i} x h = let y = summed_more x h in omega (arith, y.is, sum_part max_choices (i + 1) (weight_in ws) y.done)
+
+  pub summed_all : {sum i : ℕ} → SummedTo ws sum i → max_choices ≤ i → sum ≡ sum_of ws
+  summed_all {sum} {i} x h = let end : i ≡ max_choices = omega (arith, x.done) in x.is ∙ ap (λ (k : ℕ). sum_below k (weight_in ws)) end
