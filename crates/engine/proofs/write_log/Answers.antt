@@ -22,5 +22,5 @@ write-requires-clause-log_asked c =
 pub returns : goal.returns
 unfolding log_in
 returns c =
-    let f = found_set _ c.in_ok-consequence.ensures in
-    rw f.0 (logged_written (rw f.1 at c.write.ensures))
+    let found = found_set _ c.in_ok-consequence.ensures in
+    rw found.0 (logged_written (rw found.1 at c.write.ensures))
