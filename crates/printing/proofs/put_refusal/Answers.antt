@@ -10,7 +10,7 @@ pub put_pair-requires : goal.put_pair-requires
 unfolding refusal_text
 put_pair-requires c =
     let digits : length (decimal c.args.number) + length (decimal c.args.place) ≤ 23 = omega (arith, decimal_short 2 c.args.number (omega (arith, c.ranges.number.fits)), decimal_short 19 c.args.place (omega (arith, c.ranges.place.fits))) in
-    rw zero-add (le_trans (refusal_length _ _ digits) c.requires)
+    rw zero-add (le_trans (refusal_length _ _ (omega (arith, digits))) c.requires)
 
 pub returns : goal.returns
 unfolding refusal_text
