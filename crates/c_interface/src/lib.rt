@@ -166,7 +166,7 @@ pub extern "C" fn why_model(
 {
     let moment = moment_of(year, month, day, minute);
     match engine::model(book, moment) {
-        Err(refused) => refusal(refused),
+        Err(unmet) => refusal(unmet),
         Ok(m) => {
             *model = m;
             0
