@@ -4,7 +4,6 @@ use Rattle.std.specs.Prelude.{Option, Some, None, unwrap_or, pos}
 use Rattle.log_form.specs.declared.Step.{Step}
 use Prim.Native.Nat.{ℕ}
 use Rattle.c_interface.specs.Promises.{Passed}
-use Rattle.c_interface.specs.Told.{Told}
 use Rattle.c_interface.specs.Seen.{code, Outcome, done, refusal, returned, behind, Seen, as_step, shown_step}
 
 -- an outcome, in each of its cases
@@ -17,11 +16,11 @@ module _ {B : Type 0} {o : Outcome B} where
   unfolding returned behind
   passed_refused e c = record { returns = rw e c; leaves = rw e refl }
 
--- the engine's call gave `result`, which is `answer` by its contract; what is seen of that is told
-module _ {A B : Type 0} {Call : A → Type 0} {seen : A → Outcome B} {answer result : A} {bytes : ℕ} {meant : Outcome B} (called : Call result)
-    (said : result ≡ answer) (t : Told bytes meant (seen answer)) where
+-- the engine's call gave `result`, which is `answer` by its contract; what is seen of that is what is meant
+module _ {A B : Type 0} {Call : A → Type 0} {seen : A → Outcome B} {answer result : A} {meant : Outcome B} (called : Call result) (said : result ≡ answer)
+    (means : seen answer ≡ meant) where
   pub seen_passed : {before after : B} {r : ℕ} → Passed (seen result) before after r → Seen Call answer seen meant before after r
-  seen_passed p = record { called = rw said at called; as_meant = t.as_meant; returns = rw said at p.returns; leaves = rw said at p.leaves }
+  seen_passed p = record { called = rw said at called; as_meant = means; returns = rw said at p.returns; leaves = rw said at p.leaves }
 
   -- and the case `told`
   module _ {told : A} (is : result ≡ told) where

@@ -26,6 +26,15 @@ impl Clause {
         }
     }
 
+    // The clause of these literals.
+    pub fn of(literals: &[u8]) -> Clause {
+        let mut c = Clause::empty();
+        for &literal in literals {
+            c.add(literal);
+        }
+        c
+    }
+
     pub fn len(&self) -> usize {
         self.count
     }
@@ -74,5 +83,43 @@ impl Clause {
         if i < Clause::ROOM {
             self.literals[i] = literal;
         }
+    }
+}
+
+#[cfg(test)]
+mod tests {
+    use super::*;
+
+    // Whether a clause has so many literals, and these are the first three, 0 where there are fewer.
+    fn holds(c: &Clause, len: usize, first: [u8; 3]) -> bool {
+        c.len() == len && [c.at(0), c.at(1), c.at(2)] == first
+    }
+
+    // 3, no of 1, 3 again, and yes of 1.
+    #[test]
+    fn clause_of_literals() -> Result<(), &'static str> {
+        let c = Clause::of(&[3, 255, 3, 1]);
+        if holds(&c, 3, [255, 1, 3]) && c.opposed && c.repeated && c.moved {
+            return Ok(());
+        }
+        Err("of literals out of order, one twice and one with its opposite")
+    }
+
+    #[test]
+    fn clause_of_literals_in_order() -> Result<(), &'static str> {
+        let c = Clause::of(&[1, 254]);
+        if holds(&c, 2, [1, 254, 0]) && !c.opposed && !c.repeated && !c.moved {
+            return Ok(());
+        }
+        Err("of literals in order")
+    }
+
+    #[test]
+    fn clause_of_no_literals() -> Result<(), &'static str> {
+        let c = Clause::of(&[]);
+        if c.is_empty() && holds(&c, 0, [0; 3]) {
+            return Ok(());
+        }
+        Err("of no literals")
     }
 }

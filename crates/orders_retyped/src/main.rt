@@ -57,7 +57,7 @@ fn walked_spread(rt: &impl Print) {
             spread_walks::count(&mut t, &d);
         }
     }
-    report::all(
+    report::show(
         rt,
         "books spread over 48 variables and 32 choices, walked:",
         &t,
@@ -78,7 +78,7 @@ fn retyped_pairs(rt: &impl Print) {
             retyped::count(&mut t, &d);
         }
     }
-    report::all(
+    report::show(
         rt,
         "books retyped, the answers to one held against those to the other:",
         &t,
@@ -95,7 +95,7 @@ fn other_rules(rt: &impl Print) {
             d = next;
         }
     }
-    report::all(
+    report::show(
         rt,
         "control, books with the rules of others, whose logs are expected to differ:",
         &t,

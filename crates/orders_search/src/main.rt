@@ -21,7 +21,7 @@ fn compared_books(rt: &impl Print, heading: &str, books: usize, like: Kind, star
     for d in Books::from_seed(like, start).take(books) {
         compare::count(&mut t, &d);
     }
-    report::all(rt, heading, &t);
+    report::show(rt, heading, &t);
 }
 
 fn compared(rt: &impl Print) {
@@ -61,28 +61,28 @@ fn counter(rt: &impl Print) {
     counter_logs::all(&mut t);
     counter_models::all(&mut t);
     large_books::all(&mut t);
-    report::all(rt, "orders at the counter:", &t);
+    report::show(rt, "orders at the counter:", &t);
 }
 
 // Books that no filling obeys, wherever in them the rule of no literals stands.
 fn without_literals(rt: &impl Print) {
     let mut t = Tally::new();
     empty_rules::all(&mut t);
-    report::all(rt, "books with a rule of no literals:", &t);
+    report::show(rt, "books with a rule of no literals:", &t);
 }
 
 // Books in which at most one choice may be yes, then those in which at most one may be no.
 fn many_models(rt: &impl Print) {
     let mut t = Tally::new();
     most_models::all(&mut t);
-    report::all(
+    report::show(
         rt,
         "books in which one more model is found than there are choices:",
         &t,
     );
     let mut t = Tally::new();
     most_models::mirrored(&mut t);
-    report::all(rt, "books in which at most one choice may be no:", &t);
+    report::show(rt, "books in which at most one choice may be no:", &t);
 }
 
 // Steps and logs of so many books of a kind.
@@ -120,7 +120,7 @@ fn walked(rt: &impl Print) {
     walk(&mut t, 3000, ties, 975318642975318642);
     let edited = made_books::of_form(Form::Edited, 6, 6, 3);
     walk(&mut t, 1000, edited, 123456789123456789);
-    report::all(rt, "books of up to 10 variables, walked:", &t);
+    report::show(rt, "books of up to 10 variables, walked:", &t);
 }
 
 // Steps and logs of books in which reasons of different sizes often cost the same.
@@ -128,7 +128,7 @@ fn walked_several(rt: &impl Print) {
     let mut t = Tally::new();
     let like = made_books::of_form(Form::Several, 8, 8, 3);
     walk(&mut t, 3000, like, 618033988749894848);
-    report::all(
+    report::show(
         rt,
         "books with several reasons for each of several goals, walked:",
         &t,
@@ -142,7 +142,7 @@ fn walked_large(rt: &impl Print) {
     walk(&mut t, 200, small, 314159265358979323);
     let any = made_books::of_form(Form::Circuit, 20, 16, 999);
     walk(&mut t, 200, any, 271828182845904523);
-    report::all(rt, "books of 17 to 20 variables, walked:", &t);
+    report::show(rt, "books of 17 to 20 variables, walked:", &t);
 }
 
 // A line that standard output does not take is passed over: the next one is tried, and the status is 0.

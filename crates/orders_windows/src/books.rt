@@ -88,6 +88,6 @@ impl Run {
             ", none: {}; moments that cannot be: {}",
             self.none, self.impossible
         );
-        report::all(rt, "", &self.tally);
+        report::show(rt, "", &self.tally);
     }
 }

@@ -27,7 +27,7 @@ fn calendar(rt: &impl Print) {
 fn no_moments(rt: &impl Print) {
     let mut t = Tally::new();
     moments::all(&mut t);
-    report::all(
+    report::show(
         rt,
         "moments that cannot be, 14 at 0 whatever the book and the buffer are:",
         &t,

@@ -7,7 +7,7 @@ use Rattle.c_interface.proofs.why_consequence.Goals as goal
 pub returns-in-Err : goal.returns-in-Err
 returns-in-Err c =
     let m = rw c.moment_of-moment.ensures at c.consequence.ensures in
-    seen_refused m m.said ((all_told _).consequence _) c.in-Err.is refl c.refusal.ensures
+    seen_refused m m.said ((all_told _).consequence _).as_meant c.in-Err.is refl c.refusal.ensures
 
 pub returns-in-Ok : goal.returns-in-Ok
-returns-in-Ok c = let m = rw c.moment_of-moment.ensures at c.consequence.ensures in seen_done m m.said ((all_told _).consequence _) c.in-Ok.is refl
+returns-in-Ok c = let m = rw c.moment_of-moment.ensures at c.consequence.ensures in seen_done m m.said ((all_told _).consequence _).as_meant c.in-Ok.is refl

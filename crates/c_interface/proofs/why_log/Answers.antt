@@ -6,4 +6,4 @@ use Rattle.c_interface.proofs.why_log.Goals as goal
 pub returns : goal.returns
 returns c =
     let m = rw c.moment_of-moment.ensures at c.log.ensures in
-    seen_passed m m.said.answered ((all_told _).log _ _) c.pass_log.ensures
+    seen_passed m m.said.answered ((all_told _).log _ _).as_meant c.pass_log.ensures

@@ -12,9 +12,9 @@ overflow_cast-goal c = cast_fits {w = w8} {z = c.unwrap_or-step.result.goal} tt 
 
 pub returns-in-Err : goal.returns-in-Err
 returns-in-Err c = let m = rw c.moment_of-moment.ensures at c.next_step.ensures in
-    seen_refused m m.said ((all_told _).step _ _ _) c.in-Err.is refl c.refusal.ensures
+    seen_refused m m.said ((all_told _).step _ _ _).as_meant c.in-Err.is refl c.refusal.ensures
 
 pub returns-in-Ok : goal.returns-in-Ok
 returns-in-Ok c = let m = rw c.moment_of-moment.ensures at c.next_step.ensures in
     rw (cast_same {w = w8} {z = c.unwrap_or-step.result.goal} tt (record { sfits = search rules }))
-    (seen_done m m.said ((all_told _).step _ _ _) c.in-Ok.is (ap done (shown_or c.in-Ok.next c.unwrap_or-step.ensures)))
+    (seen_done m m.said ((all_told _).step _ _ _).as_meant c.in-Ok.is (ap done (shown_or c.in-Ok.next c.unwrap_or-step.ensures)))

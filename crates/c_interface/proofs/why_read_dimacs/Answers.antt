@@ -7,9 +7,9 @@ use Rattle.c_interface.proofs.why_read_dimacs.Goals as goal
 pub returns-in-Err : goal.returns-in-Err
 returns-in-Err c =
     let m = c.read_dimacs.ensures in
-    seen_refused m m.said.answered ((all_told _).dimacs _) c.in-Err.is refl c.refusal.ensures
+    seen_refused m m.said.answered ((all_told _).dimacs _).as_meant c.in-Err.is refl c.refusal.ensures
 
 pub returns-in-Ok : goal.returns-in-Ok
 returns-in-Ok c =
     let m = c.read_dimacs.ensures in
-    seen_done m m.said.answered ((all_told _).dimacs _) c.in-Ok.is refl
+    seen_done m m.said.answered ((all_told _).dimacs _).as_meant c.in-Ok.is refl

@@ -6,4 +6,4 @@ use Rattle.c_interface.proofs.why_resume_log.Goals as goal
 pub returns : goal.returns
 returns c =
     let m = rw c.moment_of-moment.ensures at c.resume_log.ensures in
-    seen_passed m m.said.answered ((resume_told _).resume _ _ _) c.pass_log.ensures
+    seen_passed m m.said.answered ((resume_told _).resume _ _ _).as_meant c.pass_log.ensures
